@@ -1,0 +1,29 @@
+-- Lines of digits, place by place.
+use mathlib.Core.Path.{_≡_, refl, ap, _∙_, sym}
+use mathlib.Core.Bool.{true, _&&_}
+use mathlib.Core.List.{List, [], _∷_}
+use Prim.Native.Nat.{ℕ, zero, suc, _+_, _*_, _/_, _<_, _≤_}
+use lib.ListN.{length, getD}
+use native.Mathlib.Omega.{arith}
+use Rattle.std.proofs.shelf.Tests.{and-parts}
+use Rattle.frames.specs.Digits.{isDigit, everyDigit, digitValue, bytesOf}
+
+-- each character of a line of digits is one
+pub digit-at : (xs : List ℕ) (k : ℕ) → everyDigit xs ≡ true → k < length xs → isDigit (getD xs k 0) ≡ true
+digit-at [] k e h = absurd (omega arith)
+digit-at (x ∷ xs) zero e h = and-parts (isDigit x) (everyDigit xs) e .0
+digit-at (x ∷ xs) (suc k) e h = digit-at xs k (and-parts (isDigit x) (everyDigit xs) e .1) (omega arith)
+
+pub bytes-length : (xs : List ℕ) → length (bytesOf xs) ≡ length xs / 2
+bytes-length [] = refl
+bytes-length (x ∷ []) = refl
+bytes-length (x ∷ (y ∷ xs)) = omega (arith, bytes-length xs)
+
+pub byte-at : (xs : List ℕ) (k : ℕ) → k < length xs / 2 → getD (bytesOf xs) k 0 ≡ digitValue (getD xs (2 * k) 0) * 16 + digitValue (getD xs (2 * k + 1) 0)
+byte-at [] k h = absurd (omega arith)
+byte-at (x ∷ []) k h = absurd (omega arith)
+byte-at (x ∷ (y ∷ xs)) zero h = refl
+byte-at (x ∷ (y ∷ xs)) (suc k) h =
+    let a : 2 * suc k ≡ suc (suc (2 * k)) = omega arith in
+    let b : suc (suc (2 * k)) + 1 ≡ suc (suc (2 * k + 1)) = omega arith in
+    rw (a, b) (byte-at xs k (omega arith))

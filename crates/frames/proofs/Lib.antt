@@ -1,0 +1,4 @@
+pub mod Hex
+pub mod Overlays
+pub mod Texts
+pub mod Reading

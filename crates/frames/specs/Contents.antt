@@ -1,0 +1,40 @@
+-- What a frame of the code says, and what reading and writing one answer.
+use mathlib.Core.Path.{_≡_}
+use mathlib.Core.Bool.{Bool, true, false, cond, not, _&&_}
+use mathlib.Core.List.{List, [], _∷_, _++_}
+use Prim.Native.Nat.{ℕ}
+use lib.Dec.{ltb}
+use lib.ListN.{length, take, drop}
+use Rattle.std.specs.declared.option.Option.{Option}
+use Rattle.std.specs.declared.option.Option.the-variants.{Some, None}
+use Rattle.std.specs.declared.result.Result.{Result}
+use Rattle.std.specs.declared.result.Result.the-variants.{Ok, Err}
+use Rattle.refusals.specs.declared.Refusal.{Refusal}
+use Rattle.refusals.specs.declared.Refusal.the-variants.{Short, Frame as FrameRefusal}
+use Rattle.frames.specs.declared.Frame.{Frame}
+use Rattle.frames.specs.declared.Frame.the-variants.{Schedule, Input, Gate, Latch, Feed, Couple, Verify, Seal, Reopen}
+use Rattle.frames.specs.declared.kinds.Kind.{Kind}
+use Rattle.frames.specs.declared.kinds.Kind.the-variants.{Schedule as ScheduleKind, Input as InputKind, Gate as GateKind, Latch as LatchKind, Feed as FeedKind, Couple as CoupleKind, Verify as VerifyKind, Seal as SealKind, Reopen as ReopenKind}
+use Rattle.frames.specs.declared.read.NotAFrame.{NotAFrame}
+use Rattle.frames.specs.Rules.{ruleByte}
+use Rattle.frames.specs.Frames.{Content, frameAs, frameOf, isFrame, isWhole, encode}
+
+abbrev pub contentOf : Frame → Content
+contentOf (Schedule period proximity count phases) = record { kind = ScheduleKind; numbers = period ∷ proximity ∷ count ∷ []; listed = phases .now }
+contentOf (Input phase earliest latest) = record { kind = InputKind; numbers = phase ∷ earliest ∷ latest ∷ []; listed = [] }
+contentOf (Gate phase least greatest count sources) = record { kind = GateKind; numbers = phase ∷ least ∷ greatest ∷ count ∷ []; listed = sources .now }
+contentOf (Latch phase least greatest setup hold) = record { kind = LatchKind; numbers = phase ∷ least ∷ greatest ∷ setup ∷ hold ∷ []; listed = [] }
+contentOf (Feed latch source) = record { kind = FeedKind; numbers = latch ∷ source ∷ []; listed = [] }
+contentOf (Couple victim aggressor assisting opposing) = record { kind = CoupleKind; numbers = victim ∷ aggressor ∷ assisting ∷ opposing ∷ []; listed = [] }
+contentOf (Verify rule) = record { kind = VerifyKind; numbers = ruleByte rule ∷ []; listed = [] }
+contentOf Seal = record { kind = SealKind; numbers = []; listed = [] }
+contentOf Reopen = record { kind = ReopenKind; numbers = []; listed = [] }
+
+-- bytes read as a frame of a kind
+abbrev pub ReadAs : Option Kind → List ℕ → Result Frame NotAFrame → Type 0
+ReadAs k bs (Ok f) = frameAs k bs ≡ Some (contentOf f)
+ReadAs k bs (Err e) = frameAs k bs ≡ None
+
+abbrev pub Read : List ℕ → Result Frame NotAFrame → Type 0
+Read bs (Ok f) = frameOf bs ≡ Some (contentOf f)
+Read bs (Err e) = frameOf bs ≡ None

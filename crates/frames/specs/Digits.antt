@@ -1,0 +1,47 @@
+-- Hexadecimal digits: 0 to 9 and A to F in ASCII, two to a byte, the high one first.
+use mathlib.Core.Path.{_≡_}
+use mathlib.Core.Bool.{Bool, true, false, cond, not, _&&_, _||_}
+use mathlib.Core.List.{List, [], _∷_, _++_}
+use Prim.Native.Nat.{ℕ, _+_, _-_, _*_, _/_, _%_, _<_}
+use lib.Dec.{leb, ltb, eqb}
+use lib.ListN.{length, drop}
+use Rattle.std.specs.declared.result.Result.{Result}
+use Rattle.std.specs.declared.result.Result.the-variants.{Ok, Err}
+use Rattle.frames.specs.declared.digits.Undecoded.{Undecoded}
+use Rattle.frames.specs.declared.digits.Undecoded.the-variants.{NotDigits, TooLong}
+
+abbrev pub isDigit : ℕ → Bool
+isDigit c = (leb 48 c && leb c 57) || (leb 65 c && leb c 70)
+
+abbrev pub digitValue : ℕ → ℕ
+digitValue c = cond (leb c 57) (c - 48) (c - 55)
+
+abbrev pub everyDigit : List ℕ → Bool
+everyDigit [] = true
+everyDigit (c ∷ cs) = isDigit c && everyDigit cs
+
+-- a line that passes the test of digits
+abbrev pub isHex : List ℕ → Bool
+isHex line = not (eqb (length line) 0) && (eqb (length line % 2) 0 && everyDigit line)
+
+-- the bytes that a line's digits stand for
+abbrev pub bytesOf : List ℕ → List ℕ
+bytesOf [] = []
+bytesOf (h ∷ []) = []
+bytesOf (h ∷ (l ∷ cs)) = (digitValue h * 16 + digitValue l) ∷ bytesOf cs
+
+abbrev pub digitFor : ℕ → ℕ
+digitFor v = cond (ltb v 10) (48 + v) (55 + v)
+
+abbrev pub digitsOf : ℕ → List ℕ
+digitsOf b = digitFor (b / 16) ∷ digitFor (b % 16) ∷ []
+
+-- the most bytes that a frame can have
+abbrev pub longest : ℕ
+longest = 2050
+
+-- what reading a line into a room leaves there and answers
+abbrev pub Decoded : List ℕ → List ℕ → List ℕ → Result ℕ Undecoded → Type 0
+Decoded line old new (Ok n) = (isHex line ≡ true) × (n ≡ length (bytesOf line)) × (new ≡ bytesOf line ++ drop n old)
+Decoded line old new (Err NotDigits) = (isHex line ≡ false) × (new ≡ old)
+Decoded line old new (Err TooLong) = (isHex line ≡ true) × (longest < length (bytesOf line)) × (new ≡ old)
