@@ -2,3 +2,4 @@ pub mod Hex
 pub mod Overlays
 pub mod Texts
 pub mod Reading
+pub mod Writing

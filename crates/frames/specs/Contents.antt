@@ -38,3 +38,24 @@ ReadAs k bs (Err e) = frameAs k bs ≡ None
 abbrev pub Read : List ℕ → Result Frame NotAFrame → Type 0
 Read bs (Ok f) = frameOf bs ≡ Some (contentOf f)
 Read bs (Err e) = frameOf bs ≡ None
+
+-- how many phases or sources a frame says that it lists
+abbrev pub countOf : Frame → ℕ
+countOf (Schedule period proximity count phases) = count
+countOf (Input phase earliest latest) = 0
+countOf (Gate phase least greatest count sources) = count
+countOf (Latch phase least greatest setup hold) = 0
+countOf (Feed latch source) = 0
+countOf (Couple victim aggressor assisting opposing) = 0
+countOf (Verify rule) = 0
+countOf Seal = 0
+countOf Reopen = 0
+
+-- why a frame cannot be written into so many bytes: it lists another number than it says, or there is no room
+abbrev pub unwritten : Content → ℕ → Option Refusal
+unwritten f room = cond (not (isWhole f)) (Some FrameRefusal) (cond (ltb room (length (encode f))) (Some Short) None)
+
+-- a written frame stands in the first places, reads back as itself, and leaves the others as they were
+abbrev pub Written : Content → List ℕ → List ℕ → Result ℕ Refusal → Type 0
+Written f old new (Ok n) = (unwritten f (length old) ≡ None) × (n ≡ length (encode f)) × (new ≡ encode f ++ drop n old) × (frameOf (take n new) ≡ Some f)
+Written f old new (Err e) = (unwritten f (length old) ≡ Some e) × (new ≡ old)

@@ -2,7 +2,7 @@
 use mathlib.Core.Path.{_≡_}
 use mathlib.Core.Bool.{Bool, true, false, cond, not, _&&_}
 use mathlib.Core.List.{List, [], _∷_, _++_}
-use Prim.Native.Nat.{ℕ, zero, suc, _+_, _-_, _*_, _/_, _%_, _^_}
+use Prim.Native.Nat.{ℕ, zero, suc, _+_, _-_, _*_, _/_, _%_, _^_, _<_}
 use lib.Dec.{eqb, leb, ltb}
 use lib.ListN.{length, getD, take, drop}
 use Rattle.std.specs.Options.{isSome}
@@ -37,14 +37,25 @@ join [] xs = []
 join (w ∷ ws) [] = []
 join (w ∷ ws) (x ∷ xs) = bytesIn w x ++ join ws xs
 
+-- there is a number for each field, and it fits
+abbrev pub Fit : List ℕ → List ℕ → Type 0
+Fit [] [] = Unit {0}
+Fit [] (x ∷ xs) = ⊥
+Fit (w ∷ ws) [] = ⊥
+Fit (w ∷ ws) (x ∷ xs) = (x < 256 ^ w) × Fit ws xs
+
 -- the numbers in the fields of these widths from a place on
 abbrev pub cut : List ℕ → ℕ → List ℕ → List ℕ
 cut [] place bs = []
 cut (w ∷ ws) place bs = numberAt w place bs ∷ cut ws (place + w) bs
 
+-- a frame's kind and fixed fields in bytes
+abbrev pub fieldsOf : Content → List ℕ
+fieldsOf f = byteOf (f .kind) ∷ join (widths (f .kind)) (f .numbers)
+
 -- a frame in bytes
 abbrev pub encode : Content → List ℕ
-encode f = byteOf (f .kind) ∷ (join (widths (f .kind)) (f .numbers) ++ f .listed)
+encode f = fieldsOf f ++ f .listed
 
 -- the last fixed field, which counts what a schedule or a gate lists
 abbrev pub lastField : Content → ℕ

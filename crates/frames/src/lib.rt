@@ -7,6 +7,7 @@ pub mod lines;
 pub mod kinds;
 pub mod rules;
 pub mod read;
+pub mod write;
 
 // A frame with its fields in the order of the format. `phases` and `sources` are the bytes of what
 // a schedule or a gate lists, `count` of them: 8 bytes for a phase and 2 for a source.
