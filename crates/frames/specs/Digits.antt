@@ -7,6 +7,8 @@ use lib.Dec.{leb, ltb, eqb}
 use lib.ListN.{length, drop}
 use Rattle.std.specs.declared.result.Result.{Result}
 use Rattle.std.specs.declared.result.Result.the-variants.{Ok, Err}
+use Rattle.refusals.specs.declared.Refusal.{Refusal}
+use Rattle.refusals.specs.declared.Refusal.the-variants.{Digits as DigitsRefusal, Frame as FrameRefusal}
 use Rattle.frames.specs.declared.digits.Undecoded.{Undecoded}
 use Rattle.frames.specs.declared.digits.Undecoded.the-variants.{NotDigits, TooLong}
 
@@ -45,3 +47,8 @@ abbrev pub Decoded : List ℕ → List ℕ → List ℕ → Result ℕ Undecoded
 Decoded line old new (Ok n) = (isHex line ≡ true) × (n ≡ length (bytesOf line)) × (new ≡ bytesOf line ++ drop n old)
 Decoded line old new (Err NotDigits) = (isHex line ≡ false) × (new ≡ old)
 Decoded line old new (Err TooLong) = (isHex line ≡ true) × (longest < length (bytesOf line)) × (new ≡ old)
+
+-- what a line is refused with that cannot be read into the room of a frame
+abbrev pub undecodedRefusal : Undecoded → Refusal
+undecodedRefusal NotDigits = DigitsRefusal
+undecodedRefusal TooLong = FrameRefusal

@@ -4,7 +4,9 @@ ghost use mathlib.Core.Bool.{true, false, not};
 ghost use mathlib.Core.List.{List, [], _∷_, _++_};
 ghost use Prim.Native.Nat.{ℕ, _+_, _*_, _/_, _<_, _≤_};
 ghost use lib.ListN.{length, getD, drop};
-ghost use Rattle.frames.specs.Digits.{isDigit, digitValue, digitFor, everyDigit, isHex, bytesOf, digitsOf, Decoded};
+ghost use Rattle.frames.specs.Digits.{isDigit, digitValue, digitFor, everyDigit, isHex, bytesOf, digitsOf, Decoded, undecodedRefusal};
+
+use refusals::Refusal;
 
 // How many bytes the longest frame has: a schedule that lists 255 phases.
 pub const LONGEST: usize = 2050;
@@ -14,6 +16,19 @@ pub const LONGEST: usize = 2050;
 pub enum Undecoded {
     NotDigits,
     TooLong,
+}
+
+// A line that has another character than digits, or half a byte of them, fails the test of digits; one
+// that is longer than every frame fails the test of frames.
+pub impl From<Undecoded> for Refusal as RefusalFromUndecoded {
+    ghost converts = { λ e r. r ≡ undecodedRefusal e };
+
+    fn from(e: Undecoded) -> Refusal {
+        match e {
+            Undecoded::NotDigits => Refusal::Digits,
+            Undecoded::TooLong => Refusal::Frame,
+        }
+    }
 }
 
 fn is_digit(character: u8) -> bool

@@ -1,22 +1,32 @@
 // Reading a frame: bytes are taken apart into a kind, its fixed fields and what is listed after them.
 ghost use mathlib.Core.Path.{_≡_};
 ghost use mathlib.Core.Bool.{true, _&&_};
-ghost use Prim.Native.Nat.{_+_, _*_, _-_, _≤_};
+ghost use Prim.Native.Nat.{_*_, _-_, _≤_};
 ghost use lib.Dec.{leb, eqb};
 ghost use lib.ListN.{length, getD, drop};
 ghost use Rattle.std.specs.declared.option.Option.the-variants.{Some as Known};
-ghost use Rattle.frames.specs.Kinds.{formOf};
-ghost use Rattle.frames.specs.Frames.{apart, lastField, isFrame};
+ghost use Rattle.refusals.specs.declared.Refusal.the-variants.{Frame as FrameRefusal};
+ghost use Rattle.frames.specs.Frames.{isFrame};
 ghost use Rattle.frames.specs.Contents.{ReadAs, Read};
 
 use super::Frame;
 use super::kinds::Form;
 use super::kinds::Kind;
 use super::rules::Rule;
+use refusals::Refusal;
 
 // What reading answers where bytes are no frame.
 #[derive(Clone, Copy, PartialEq, Eq, Debug)]
 pub struct NotAFrame;
+
+pub impl From<NotAFrame> for Refusal as RefusalFromNotAFrame {
+    ghost converts = { λ e r. r ≡ FrameRefusal };
+
+    fn from(e: NotAFrame) -> Refusal {
+        let NotAFrame = e;
+        Refusal::Frame
+    }
+}
 
 fn schedule(bytes: &[u8]) -> Result<Frame<'_>, NotAFrame>
     requires { ⌜ isFrame Kind.Schedule (now bytes) ≡ true ⌝ }

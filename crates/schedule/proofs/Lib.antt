@@ -1,0 +1,3 @@
+mod Lists
+pub mod Lawful
+pub mod Cleared
