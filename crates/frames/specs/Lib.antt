@@ -1,5 +1,3 @@
-pub mod Lines
-pub mod Digits
 pub mod Kinds
 pub mod Rules
 pub mod Frames

@@ -17,7 +17,7 @@ pub enum Kind {
 
 // What a frame of a kind is made of: its first byte, how many bytes stand before what it lists, and
 // how many each listed phase or source takes (0 where the kind lists nothing).
-#[derive(Clone, Copy, PartialEq, Eq, Debug)]
+#[derive(Clone, Copy)]
 pub struct Form {
     pub kind: Kind,
     pub byte: u8,

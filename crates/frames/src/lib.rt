@@ -1,9 +1,6 @@
 // Frames: what a line of a text says, once its digits are read.
 use rules::Rule;
 
-pub mod digits;
-pub mod lines;
-
 pub mod kinds;
 pub mod rules;
 pub mod read;

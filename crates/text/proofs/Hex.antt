@@ -6,7 +6,7 @@ use Prim.Native.Nat.{ℕ, zero, suc, _+_, _*_, _/_, _<_, _≤_}
 use lib.ListN.{length, getD}
 use native.Mathlib.Omega.{arith}
 use Rattle.std.proofs.shelf.Tests.{and-parts}
-use Rattle.frames.specs.Digits.{isDigit, everyDigit, digitValue, bytesOf}
+use Rattle.text.specs.Digits.{isDigit, everyDigit, digitValue, bytesOf}
 
 -- each character of a line of digits is one
 pub digit-at : (xs : List ℕ) (k : ℕ) → everyDigit xs ≡ true → k < length xs → isDigit (getD xs k 0) ≡ true

@@ -9,8 +9,8 @@ use Rattle.std.specs.declared.result.Result.{Result}
 use Rattle.std.specs.declared.result.Result.the-variants.{Ok, Err}
 use Rattle.refusals.specs.declared.Refusal.{Refusal}
 use Rattle.refusals.specs.declared.Refusal.the-variants.{Digits as DigitsRefusal, Frame as FrameRefusal}
-use Rattle.frames.specs.declared.digits.Undecoded.{Undecoded}
-use Rattle.frames.specs.declared.digits.Undecoded.the-variants.{NotDigits, TooLong}
+use Rattle.text.specs.declared.digits.Undecoded.{Undecoded}
+use Rattle.text.specs.declared.digits.Undecoded.the-variants.{NotDigits, TooLong}
 
 abbrev pub isDigit : ℕ → Bool
 isDigit c = (leb 48 c && leb c 57) || (leb 65 c && leb c 70)

@@ -2,9 +2,9 @@ use mathlib.Core.Path.{refl}
 use mathlib.Core.Logic.{inl, inr}
 use native.Mathlib.Omega.{arith}
 use Rattle.std.proofs.shelf.Lists.{drop-all}
-use Rattle.frames.proofs.Texts.{first-line}
-use Rattle.frames.proofs.lines.Lines.next.Needs as need
-use Rattle.frames.proofs.lines.Lines.next.Needs.{then-end-text, else-end-text}
+use Rattle.text.proofs.Texts.{first-line}
+use Rattle.text.proofs.lines.Lines.next.Needs as need
+use Rattle.text.proofs.lines.Lines.next.Needs.{then-end-text, else-end-text}
 
 pub returns-then-start-text : need.returns-then-start-text
 returns-then-start-text c = (drop-all (c .args .self .now .place) (c .args .self .now .text .now) (c .if-start-text .taken), refl)

@@ -4,7 +4,7 @@ ghost use mathlib.Core.Bool.{true, false, not};
 ghost use mathlib.Core.List.{List, [], _∷_, _++_};
 ghost use Prim.Native.Nat.{ℕ, _+_, _*_, _/_, _<_, _≤_};
 ghost use lib.ListN.{length, getD, drop};
-ghost use Rattle.frames.specs.Digits.{isDigit, digitValue, digitFor, everyDigit, isHex, bytesOf, digitsOf, Decoded, undecodedRefusal};
+ghost use Rattle.text.specs.Digits.{isDigit, digitValue, digitFor, everyDigit, isHex, bytesOf, digitsOf, Decoded, undecodedRefusal};
 
 use refusals::Refusal;
 

@@ -6,10 +6,10 @@ use lib.ListN.{length, getD, set, take, drop}
 use native.Mathlib.Omega.{arith}
 use Rattle.std.proofs.shelf.Lists.{take-all}
 use Rattle.std.proofs.shelf.Ways.{tells}
-use Rattle.frames.specs.Digits.{isHex, everyDigit, bytesOf, digitValue}
-use Rattle.frames.proofs.Hex.{digit-at, bytes-length, byte-at}
-use Rattle.frames.proofs.Overlays.{overlay-more}
-use Rattle.frames.proofs.digits.decode.Needs as need
+use Rattle.text.specs.Digits.{isHex, everyDigit, bytesOf, digitValue}
+use Rattle.text.proofs.Hex.{digit-at, bytes-length, byte-at}
+use Rattle.text.proofs.Overlays.{overlay-more}
+use Rattle.text.proofs.digits.decode.Needs as need
 
 pub returns-then-count-gt-LONGEST : need.returns-then-count-gt-LONGEST
 returns-then-count-gt-LONGEST c =

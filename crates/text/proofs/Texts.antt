@@ -9,7 +9,7 @@ use lib.ListN.{length, getD, take, drop}
 use native.Mathlib.Omega.{arith}
 use native.Mathlib.Numerals.{add-one}
 use Rattle.std.proofs.shelf.Lists.{at-drop-more, drop-drop, drop-all, length-drop}
-use Rattle.frames.specs.Lines.{lineFeed, linesOf, before, front}
+use Rattle.text.specs.Lines.{lineFeed, linesOf, before, front}
 
 pub front-more : (xs : List ℕ) (i : ℕ) → i < length xs → front (drop i xs) ≡ cond (eqb (getD xs i 0) lineFeed) 0 (suc (front (drop (i + 1) xs)))
 front-more xs i h = at-drop-more front xs i 0 h

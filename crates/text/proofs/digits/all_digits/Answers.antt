@@ -6,8 +6,8 @@ use lib.ListN.{length, getD, drop}
 use native.Mathlib.Omega.{arith}
 use Rattle.std.proofs.shelf.Lists.{at-drop-more, at-drop-all}
 use Rattle.std.proofs.shelf.Ways.{tells}
-use Rattle.frames.specs.Digits.{isDigit, everyDigit}
-use Rattle.frames.proofs.digits.all_digits.Needs as need
+use Rattle.text.specs.Digits.{isDigit, everyDigit}
+use Rattle.text.proofs.digits.all_digits.Needs as need
 
 -- the digits from a place on, by the character there and the others
 more : (xs : List ℕ) (i : ℕ) → i < length xs → everyDigit (drop i xs) ≡ (isDigit (getD xs i 0) && everyDigit (drop (i + 1) xs))

@@ -7,8 +7,8 @@ use lib.Dec.{eqb}
 use lib.ListN.{drop}
 use Rattle.std.specs.declared.option.Option.{Option}
 use Rattle.std.specs.declared.option.Option.the-variants.{Some, None}
-use Rattle.frames.specs.declared.lines.Lines.{Lines}
-use Rattle.frames.specs.declared.lines.Line.{Line}
+use Rattle.text.specs.declared.lines.Lines.{Lines}
+use Rattle.text.specs.declared.lines.Line.{Line}
 
 abbrev pub lineFeed : ℕ
 lineFeed = 10

@@ -1,9 +1,9 @@
 use native.Mathlib.Omega.{arith}
 use Rattle.std.proofs.shelf.Lists.{at-drop-all}
 use Rattle.std.proofs.shelf.Ways.{tells}
-use Rattle.frames.specs.Lines.{front}
-use Rattle.frames.proofs.Texts.{front-more}
-use Rattle.frames.proofs.lines.reading.line_end.Needs as need
+use Rattle.text.specs.Lines.{front}
+use Rattle.text.proofs.Texts.{front-more}
+use Rattle.text.proofs.lines.reading.line_end.Needs as need
 
 pub returns-then-text-place-eq10 : need.returns-then-text-place-eq10
 returns-then-text-place-eq10 c =

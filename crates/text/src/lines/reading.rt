@@ -2,7 +2,7 @@
 ghost use mathlib.Core.Path.{_≡_};
 ghost use Prim.Native.Nat.{ℕ, _+_, _≤_};
 ghost use lib.ListN.{length, drop};
-ghost use Rattle.frames.specs.Lines.{front, left, Handed};
+ghost use Rattle.text.specs.Lines.{front, left, Handed};
 
 use super::Line;
 use super::Lines;
