@@ -6,6 +6,7 @@ use Prim.Native.Nat.{ℕ, zero, suc, _+_, _*_, _/_, _<_, _≤_}
 use lib.ListN.{length, getD}
 use native.Mathlib.Omega.{arith}
 use Rattle.std.proofs.shelf.Tests.{and-parts}
+use Rattle.std.proofs.shelf.Ways.{tells}
 use Rattle.text.specs.Digits.{isDigit, everyDigit, digitValue, bytesOf}
 
 -- each character of a line of digits is one
@@ -27,3 +28,17 @@ byte-at (x ∷ (y ∷ xs)) (suc k) h =
     let a : 2 * suc k ≡ suc (suc (2 * k)) = omega arith in
     let b : suc (suc (2 * k)) + 1 ≡ suc (suc (2 * k + 1)) = omega arith in
     rw (a, b) (byte-at xs k (omega arith))
+
+value-small : (c : ℕ) → isDigit c ≡ true → digitValue c < 16
+value-small c e = grind (arith, tells)
+
+-- two digits make a number that fits a byte
+pub byte-small : (xs : List ℕ) (k : ℕ) → everyDigit xs ≡ true → getD (bytesOf xs) k 0 < 256
+byte-small [] k e = omega arith
+byte-small (x ∷ []) k e = omega arith
+byte-small (x ∷ (y ∷ xs)) zero e =
+    let first = and-parts (isDigit x) (isDigit y && everyDigit xs) e in
+    let second = and-parts (isDigit y) (everyDigit xs) (first .1) in
+    omega (arith, value-small x (first .0), value-small y (second .0))
+byte-small (x ∷ (y ∷ xs)) (suc k) e =
+    byte-small xs k (and-parts (isDigit y) (everyDigit xs) (and-parts (isDigit x) (isDigit y && everyDigit xs) e .1) .1)
