@@ -1,9 +1,7 @@
--- The clock of a book, and the clock that a schedule frame asks for.
+-- The clock that a schedule frame asks for.
 use mathlib.Core.List.{List, map}
 use Prim.Native.Nat.{ℕ, _+_, _*_}
 use Rattle.std.specs.Iters.{counting}
-use Rattle.std.specs.declared.option.Option.{Option}
-use Rattle.std.specs.declared.option.Option.the-variants.{Some, None}
 use Rattle.schedule.specs.Clock.{Clock, greatestPhases}
 use Rattle.frames.specs.Frames.{numberAt}
 

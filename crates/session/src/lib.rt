@@ -12,6 +12,9 @@ use text::digits::RefusalFromUndecoded;
 use text::digits::decode;
 use text::digits::digits_of;
 
+#[cfg(test)]
+mod tests;
+
 // How many bytes a text may have.
 pub const GREATEST_TEXT: usize = 65_536;
 
