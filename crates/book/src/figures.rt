@@ -5,7 +5,6 @@ ghost use lib.ListN.{getD};
 ghost use Rattle.frames.specs.Frames.{numberAt};
 ghost use Rattle.schedule.specs.Made.{drawn};
 ghost use Rattle.book.specs.Clocks.{clockIn};
-
 use schedule::figures::Figures;
 
 // The byte at a place, or 0 past the last one.
@@ -38,5 +37,11 @@ pub(crate) fn figures_of(period: u32, proximity: u32, count: u8, phases: &[u8]) 
         starts[k] = number_at(phases, 8 * k);
         widths[k] = number_at(phases, 8 * k + 4);
     }
-    Figures { period, proximity, count, starts, widths }
+    Figures {
+        period,
+        proximity,
+        count,
+        starts,
+        widths,
+    }
 }

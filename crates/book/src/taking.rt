@@ -2,7 +2,6 @@
 ghost use Rattle.frames.specs.Contents.{contentOf};
 ghost use Rattle.schedule.specs.Made.{drawn};
 ghost use Rattle.book.specs.Taking.{clockOf, clocked, Agrees, Taken};
-
 use super::Book;
 use super::figures::figures_of;
 use frames::Frame;
@@ -31,7 +30,12 @@ impl Book {
         ensures { λ r. ⌜ Taken (now (self .entry)) (contentOf (now (frame .entry))) (now (self .exit)) r ⌝ }
     {
         match *frame {
-            Frame::Schedule { period, proximity, count, phases } => self.set_clock(&figures_of(period, proximity, count, phases)),
+            Frame::Schedule {
+                period,
+                proximity,
+                count,
+                phases,
+            } => self.set_clock(&figures_of(period, proximity, count, phases)),
             _ => Err(Refusal::Order),
         }
     }

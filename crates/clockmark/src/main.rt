@@ -33,7 +33,9 @@ fn mark<W: Write>(text: &[u8], out: &mut W) -> io::Result<()> {
 fn main(rt: LibcRuntime) -> io::Result<()> {
     let mut text = Vec::new(rt.alloc());
     // One byte more than a text may have, so that a longer one is known by its length.
-    rt.stdin().take(GREATEST_TEXT as u64 + 1).read_to_end(&mut text)?;
+    rt.stdin()
+        .take(GREATEST_TEXT as u64 + 1)
+        .read_to_end(&mut text)?;
     let mut out = BufWriter::new(rt.stdout());
     mark(text.as_slice(), &mut out)?;
     out.flush()

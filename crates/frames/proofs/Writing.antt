@@ -31,12 +31,12 @@ power-pos : (w : ℕ) → 0 < 256 ^ w
 power-pos zero = omega arith
 power-pos (suc w) = simp pow-succ' (omega (arith, power-pos w))
 
-bytes-in-length : (w x : ℕ) → length (bytesIn w x) ≡ w
+pub bytes-in-length : (w x : ℕ) → length (bytesIn w x) ≡ w
 bytes-in-length zero x = refl
 bytes-in-length (suc w) x = ap suc (bytes-in-length w x)
 
 -- a number's bytes, wherever they stand, read as the number, if it fits them
-number-back : (w x : ℕ) (pre post : List ℕ) (place : ℕ) → length pre ≡ place → numberAt w place (pre ++ (bytesIn w x ++ post)) ≡ x % 256 ^ w
+pub number-back : (w x : ℕ) (pre post : List ℕ) (place : ℕ) → length pre ≡ place → numberAt w place (pre ++ (bytesIn w x ++ post)) ≡ x % 256 ^ w
 number-back zero x pre post place at = sym (mod-one x)
 number-back (suc w) x pre post place at =
     let digit = x / 256 ^ w % 256 in
@@ -133,10 +133,10 @@ written f old mid listed fixed k fit whole wide lists width room put =
     let long : fixed ≤ length mid = omega (arith, ap length put′ ∙ length-append (fieldsOf f) (drop fixed old)) in
     let taken : take n (putMid fixed k mid listed) ≡ encode f = take-putMid fixed k mid listed n refl long ∙ (ap (λ bs. take fixed bs ++ listed) put′ ∙ (ap (λ bs. bs ++ listed) (take-at (fieldsOf f) (drop fixed old) fixed front) ∙ ap (λ bs. fieldsOf f ++ bs) lists)) in
     let left : drop n (putMid fixed k mid listed) ≡ drop n old = drop-putMid fixed k mid listed n (omega arith) long (sym width) ∙ (ap (drop n) put′ ∙ drop-append-drop fixed old (fieldsOf f) n (omega arith) front) in
-    let size : n ≡ length (encode f) = omega (arith, encode-length f fit, ap length lists) in
-    ( cond-false (not (isWhole f)) (Some FrameRefusal) (cond (ltb (length old) (length (encode f))) (Some Short) None) (ap not whole)
-      ∙ cond-false (ltb (length old) (length (encode f))) (Some Short) None (le-ltb (length old) (length (encode f)) (omega arith))
-    , size
-    , sym (take-append-drop n (putMid fixed k mid listed)) ∙ (ap (λ bs. bs ++ drop n (putMid fixed k mid listed)) taken ∙ ap (λ bs. encode f ++ bs) left)
-    , ap frameOf taken ∙ read-back f fit whole
+    let size : n ≡ length (encode f) = omega (arith, encode-length f fit, ap length lists) in (
+      cond-false (not (isWhole f)) (Some FrameRefusal) (cond (ltb (length old) (length (encode f))) (Some Short) None) (ap not whole)
+          ∙ cond-false (ltb (length old) (length (encode f))) (Some Short) None (le-ltb (length old) (length (encode f)) (omega arith)),
+      size,
+      sym (take-append-drop n (putMid fixed k mid listed)) ∙ (ap (λ bs. bs ++ drop n (putMid fixed k mid listed)) taken ∙ ap (λ bs. encode f ++ bs) left),
+      ap frameOf taken ∙ read-back f fit whole,
     )

@@ -35,8 +35,9 @@ abbrev pub ReadAs : Option Kind → List ℕ → Result Frame NotAFrame → Type
 ReadAs k bs (Ok f) = frameAs k bs ≡ Some (contentOf f)
 ReadAs k bs (Err e) = frameAs k bs ≡ None
 
+-- bytes read as the frame that they are, which is written as these bytes again
 abbrev pub Read : List ℕ → Result Frame NotAFrame → Type 0
-Read bs (Ok f) = frameOf bs ≡ Some (contentOf f)
+Read bs (Ok f) = (frameOf bs ≡ Some (contentOf f)) × (encode (contentOf f) ≡ bs)
 Read bs (Err e) = frameOf bs ≡ None
 
 -- how many phases or sources a frame says that it lists

@@ -26,15 +26,60 @@ pub struct Form {
 }
 
 const FORMS: [Form; 9] = [
-    Form { kind: Kind::Schedule, byte: 0x01, fixed: 10, item: 8 },
-    Form { kind: Kind::Input, byte: 0x02, fixed: 10, item: 0 },
-    Form { kind: Kind::Gate, byte: 0x03, fixed: 11, item: 2 },
-    Form { kind: Kind::Latch, byte: 0x04, fixed: 18, item: 0 },
-    Form { kind: Kind::Feed, byte: 0x05, fixed: 5, item: 0 },
-    Form { kind: Kind::Couple, byte: 0x06, fixed: 13, item: 0 },
-    Form { kind: Kind::Verify, byte: 0x07, fixed: 2, item: 0 },
-    Form { kind: Kind::Seal, byte: 0x08, fixed: 1, item: 0 },
-    Form { kind: Kind::Reopen, byte: 0x09, fixed: 1, item: 0 },
+    Form {
+        kind: Kind::Schedule,
+        byte: 0x01,
+        fixed: 10,
+        item: 8,
+    },
+    Form {
+        kind: Kind::Input,
+        byte: 0x02,
+        fixed: 10,
+        item: 0,
+    },
+    Form {
+        kind: Kind::Gate,
+        byte: 0x03,
+        fixed: 11,
+        item: 2,
+    },
+    Form {
+        kind: Kind::Latch,
+        byte: 0x04,
+        fixed: 18,
+        item: 0,
+    },
+    Form {
+        kind: Kind::Feed,
+        byte: 0x05,
+        fixed: 5,
+        item: 0,
+    },
+    Form {
+        kind: Kind::Couple,
+        byte: 0x06,
+        fixed: 13,
+        item: 0,
+    },
+    Form {
+        kind: Kind::Verify,
+        byte: 0x07,
+        fixed: 2,
+        item: 0,
+    },
+    Form {
+        kind: Kind::Seal,
+        byte: 0x08,
+        fixed: 1,
+        item: 0,
+    },
+    Form {
+        kind: Kind::Reopen,
+        byte: 0x09,
+        fixed: 1,
+        item: 0,
+    },
 ];
 
 fn find(forms: &[Form], byte: u8) -> Option<Kind>

@@ -6,9 +6,9 @@ ghost use lib.Dec.{leb, eqb};
 ghost use lib.ListN.{length, getD, drop};
 ghost use Rattle.std.specs.declared.option.Option.the-variants.{Some as Known};
 ghost use Rattle.refusals.specs.declared.Refusal.the-variants.{Frame as FrameRefusal};
+ghost use Rattle.frames.specs.Kinds.{kindOf};
 ghost use Rattle.frames.specs.Frames.{isFrame};
 ghost use Rattle.frames.specs.Contents.{ReadAs, Read};
-
 use super::Frame;
 use super::kinds::Form;
 use super::kinds::Kind;
@@ -141,9 +141,9 @@ fn fits(form: Form, bytes: &[u8]) -> bool
     bytes.len() - form.fixed == form.item * bytes[form.fixed - 1] as usize
 }
 
-// The frame that bytes are.
-pub fn read(bytes: &[u8]) -> Result<Frame<'_>, NotAFrame>
-    ensures { λ r. ⌜ Read (now (bytes .entry)) r ⌝ }
+// The frame that bytes are by their first one.
+fn frame_in(bytes: &[u8]) -> Result<Frame<'_>, NotAFrame>
+    ensures { λ r. ⌜ ReadAs (kindOf (getD (now (bytes .entry)) 0 0)) (now (bytes .entry)) r ⌝ }
 {
     let [first, ..] = bytes else {
         return Err(NotAFrame);
@@ -165,4 +165,11 @@ pub fn read(bytes: &[u8]) -> Result<Frame<'_>, NotAFrame>
         Kind::Seal => Ok(Frame::Seal),
         Kind::Reopen => Ok(Frame::Reopen),
     }
+}
+
+// The frame that bytes are; written, it is these bytes again.
+pub fn read(bytes: &[u8]) -> Result<Frame<'_>, NotAFrame>
+    ensures { λ r. ⌜ Read (now (bytes .entry)) r ⌝ }
+{
+    frame_in(bytes)
 }

@@ -6,7 +6,6 @@ ghost use lib.ListN.{length, drop};
 ghost use Rattle.frames.specs.Kinds.{byteOf, widths, fixedWidth};
 ghost use Rattle.frames.specs.Frames.{join, fieldsOf, Fit};
 ghost use Rattle.frames.specs.Contents.{contentOf, countOf, Written};
-
 use super::Frame;
 use super::kinds::Kind;
 use refusals::Refusal;
@@ -112,12 +111,38 @@ fn put_fields(frame: &Frame<'_>, out: &mut [u8])
     ensures after { λ _. ⌜ now (out .exit) ≡ fieldsOf (contentOf (now (frame .entry))) ++ drop (fixedWidth (contentOf (now (frame .entry)) .kind)) (now (out .entry)) ⌝ }
 {
     match *frame {
-        Frame::Schedule { period, proximity, count, .. } => put(&schedule(period, proximity, count), out),
-        Frame::Input { phase, earliest, latest } => put(&input(phase, earliest, latest), out),
-        Frame::Gate { phase, least, greatest, count, .. } => put(&gate(phase, least, greatest, count), out),
-        Frame::Latch { phase, least, greatest, setup, hold } => put(&latch(phase, least, greatest, setup, hold), out),
+        Frame::Schedule {
+            period,
+            proximity,
+            count,
+            ..
+        } => put(&schedule(period, proximity, count), out),
+        Frame::Input {
+            phase,
+            earliest,
+            latest,
+        } => put(&input(phase, earliest, latest), out),
+        Frame::Gate {
+            phase,
+            least,
+            greatest,
+            count,
+            ..
+        } => put(&gate(phase, least, greatest, count), out),
+        Frame::Latch {
+            phase,
+            least,
+            greatest,
+            setup,
+            hold,
+        } => put(&latch(phase, least, greatest, setup, hold), out),
         Frame::Feed { latch, source } => put(&feed(latch, source), out),
-        Frame::Couple { victim, aggressor, assisting, opposing } => put(&couple(victim, aggressor, assisting, opposing), out),
+        Frame::Couple {
+            victim,
+            aggressor,
+            assisting,
+            opposing,
+        } => put(&couple(victim, aggressor, assisting, opposing), out),
         Frame::Verify { rule } => put(&[Kind::Verify.form().byte, rule.byte()], out),
         Frame::Seal => put(&[Kind::Seal.form().byte], out),
         Frame::Reopen => put(&[Kind::Reopen.form().byte], out),

@@ -3,6 +3,9 @@ ghost use mathlib.Core.Path.{_≡_};
 ghost use Rattle.refusals.specs.Numbers.{numberOf};
 ghost use Rattle.refusals.specs.Layers.{layerOf, faultOf};
 
+#[cfg(test)]
+mod tests;
+
 // Why a line or a call is refused; each case is one test.
 #[derive(Clone, Copy, PartialEq, Eq, Debug)]
 pub enum Refusal {
@@ -76,6 +79,10 @@ impl Fault {
     pub fn at(line: usize, refusal: Refusal) -> Self
         ensures { λ r. ⌜ r ≡ faultOf line refusal ⌝ }
     {
-        Fault { line, layer: refusal.layer(), refusal }
+        Fault {
+            line,
+            layer: refusal.layer(),
+            refusal,
+        }
     }
 }

@@ -2,7 +2,6 @@
 ghost use mathlib.Core.Path.{_≡_};
 ghost use Rattle.book.specs.Taking.{clockOf, Agrees};
 ghost use Rattle.session.specs.Printing.{answered, Admitted, Put, Answered};
-
 use book::Book;
 use frames::read::RefusalFromNotAFrame;
 use frames::read::read;

@@ -2,12 +2,13 @@
 use mathlib.Core.Path.{_≡_, refl, ap, _∙_, sym}
 use mathlib.Core.Bool.{true, _&&_}
 use mathlib.Core.List.{List, [], _∷_}
-use Prim.Native.Nat.{ℕ, zero, suc, _+_, _*_, _/_, _<_, _≤_}
+use Prim.Native.Nat.{ℕ, zero, suc, _+_, _*_, _/_, _%_, _<_, _≤_}
 use lib.ListN.{length, getD}
 use native.Mathlib.Omega.{arith}
+use Rattle.std.proofs.shelf.Bits.{div-mul-add, mod-mul-add}
 use Rattle.std.proofs.shelf.Tests.{and-parts}
 use Rattle.std.proofs.shelf.Ways.{tells}
-use Rattle.text.specs.Digits.{isDigit, everyDigit, digitValue, bytesOf}
+use Rattle.text.specs.Digits.{isDigit, everyDigit, digitValue, digitFor, bytesOf, spelled}
 
 -- each character of a line of digits is one
 pub digit-at : (xs : List ℕ) (k : ℕ) → everyDigit xs ≡ true → k < length xs → isDigit (getD xs k 0) ≡ true
@@ -42,3 +43,22 @@ byte-small (x ∷ (y ∷ xs)) zero e =
     omega (arith, value-small x (first .0), value-small y (second .0))
 byte-small (x ∷ (y ∷ xs)) (suc k) e =
     byte-small xs k (and-parts (isDigit y) (everyDigit xs) (and-parts (isDigit x) (isDigit y && everyDigit xs) e .1) .1)
+
+-- the digit of a digit's value is the digit
+digit-back : (c : ℕ) → isDigit c ≡ true → digitFor (digitValue c) ≡ c
+digit-back c e = grind (arith, tells)
+
+-- a line of whole bytes is spelled by them
+pub spelled-back : (xs : List ℕ) → length xs % 2 ≡ 0 → everyDigit xs ≡ true → spelled (bytesOf xs) ≡ xs
+spelled-back [] even e = refl
+spelled-back (x ∷ []) even e = absurd (omega arith)
+spelled-back (x ∷ (y ∷ xs)) even e =
+    let first = and-parts (isDigit x) (isDigit y && everyDigit xs) e in
+    let second = and-parts (isDigit y) (everyDigit xs) (first .1) in
+    let high : (digitValue x * 16 + digitValue y) / 16 ≡ digitValue x = div-mul-add (digitValue x) 16 (digitValue y) (value-small y (second .0)) in
+    let low : (digitValue x * 16 + digitValue y) % 16 ≡ digitValue y = mod-mul-add (digitValue x) 16 (digitValue y) (value-small y (second .0)) in
+    ap (λ h. digitFor h ∷ (digitFor ((digitValue x * 16 + digitValue y) % 16) ∷ spelled (bytesOf xs))) high
+    ∙ (ap (λ l. digitFor (digitValue x) ∷ (digitFor l ∷ spelled (bytesOf xs))) low
+    ∙ (ap (λ h. h ∷ (digitFor (digitValue y) ∷ spelled (bytesOf xs))) (digit-back x (first .0))
+    ∙ (ap (λ l. x ∷ (l ∷ spelled (bytesOf xs))) (digit-back y (second .0))
+    ∙ ap (λ cs. x ∷ (y ∷ cs)) (spelled-back xs (omega arith) (second .1)))))

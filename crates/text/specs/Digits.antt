@@ -38,13 +38,18 @@ digitFor v = cond (ltb v 10) (48 + v) (55 + v)
 abbrev pub digitsOf : ℕ → List ℕ
 digitsOf b = digitFor (b / 16) ∷ digitFor (b % 16) ∷ []
 
+-- bytes as a line of digits
+abbrev pub spelled : List ℕ → List ℕ
+spelled [] = []
+spelled (b ∷ bs) = digitsOf b ++ spelled bs
+
 -- the most bytes that a frame can have
 abbrev pub longest : ℕ
 longest = 2050
 
--- what reading a line into a room leaves there and answers
+-- What reading a line into a room leaves there and answers. The digits of the bytes that were read are the line again.
 abbrev pub Decoded : List ℕ → List ℕ → List ℕ → Result ℕ Undecoded → Type 0
-Decoded line old new (Ok n) = (isHex line ≡ true) × (n ≡ length (bytesOf line)) × (new ≡ bytesOf line ++ drop n old)
+Decoded line old new (Ok n) = (isHex line ≡ true) × (n ≡ length (bytesOf line)) × (new ≡ bytesOf line ++ drop n old) × (spelled (bytesOf line) ≡ line)
 Decoded line old new (Err NotDigits) = (isHex line ≡ false) × (new ≡ old)
 Decoded line old new (Err TooLong) = (isHex line ≡ true) × (longest < length (bytesOf line)) × (new ≡ old)
 

@@ -5,7 +5,6 @@ ghost use mathlib.Core.List.{List, [], _∷_, _++_};
 ghost use Prim.Native.Nat.{ℕ, _+_, _*_, _/_, _<_, _≤_};
 ghost use lib.ListN.{length, getD, drop};
 ghost use Rattle.text.specs.Digits.{isDigit, digitValue, digitFor, everyDigit, isHex, bytesOf, digitsOf, Decoded, undecodedRefusal};
-
 use refusals::Refusal;
 
 // How many bytes the longest frame has: a schedule that lists 255 phases.
@@ -44,7 +43,11 @@ fn digit_value(digit: u8) -> u8
     requires { ⌜ isDigit digit ≡ true ⌝ }
     ensures { λ r. ⌜ r ≡ digitValue digit ⌝ ∗ ⌜ r < 16 ⌝ }
 {
-    if digit <= b'9' { digit - b'0' } else { digit - b'A' + 10 }
+    if digit <= b'9' {
+        digit - b'0'
+    } else {
+        digit - b'A' + 10
+    }
 }
 
 fn all_digits(line: &[u8]) -> bool
@@ -79,7 +82,11 @@ fn digit(figure: u8) -> u8
     requires { ⌜ figure < 16 ⌝ }
     ensures { λ r. ⌜ r ≡ digitFor figure ⌝ }
 {
-    if figure < 10 { b'0' + figure } else { b'A' + (figure - 10) }
+    if figure < 10 {
+        b'0' + figure
+    } else {
+        b'A' + (figure - 10)
+    }
 }
 
 // A byte's two digits, the high one first.

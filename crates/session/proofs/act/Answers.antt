@@ -31,5 +31,5 @@ returns c =
     through (c .args .book .now) (c .take .last .self) (c .args .line .now) _ (contentOf (c .in-Continue-frame .frame)) (c .take .result)
     (c .in-Continue-count .ensures tt .0)
     (read-part (c .args .line .now) _ (c .decode .last .room) (c .in-Continue-count .count) (c .in-Continue-count .ensures tt))
-    (c .in-Continue-frame .ensures tt)
+    (c .in-Continue-frame .ensures tt .0)
     (c .take .ensures)

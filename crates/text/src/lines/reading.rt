@@ -3,7 +3,6 @@ ghost use mathlib.Core.Path.{_≡_};
 ghost use Prim.Native.Nat.{ℕ, _+_, _≤_};
 ghost use lib.ListN.{length, drop};
 ghost use Rattle.text.specs.Lines.{front, left, Handed};
-
 use super::Line;
 use super::Lines;
 
@@ -24,7 +23,11 @@ impl<'a> Lines<'a> {
     pub fn new(text: &'a [u8]) -> Lines<'a>
         ensures { λ r. ⌜ (left r ≡ now (text .entry)) × (r .count ≡ 0) ⌝ }
     {
-        Lines { text, place: 0, count: 0 }
+        Lines {
+            text,
+            place: 0,
+            count: 0,
+        }
     }
 
     // The next line, or none where the text is read to its end.
@@ -41,6 +44,9 @@ impl<'a> Lines<'a> {
         let place = if end < text.len() { end + 1 } else { end };
         self.place = place;
         self.count = number;
-        Some(Line { number, bytes: &text[start..end] })
+        Some(Line {
+            number,
+            bytes: &text[start..end],
+        })
     }
 }

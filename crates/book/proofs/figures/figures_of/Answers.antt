@@ -15,12 +15,12 @@ filled : (f : ℕ → ℕ) (xs : List ℕ) (i v : ℕ) → length xs ≡ 16 → 
 filled f xs i v n h e inv k l = ap (λ w. getD (set xs i w) k 0) e ∙ fill-by-more f xs i 0 (omega arith) inv k l
 
 pub loop-k-again : need.loop-k-again
-loop-k-again c =
-    ( length-set (c .loop-k .starts) (c .loop-k .k) (c .number-at .result) ∙ c .loop-k .inv .0
-    , length-set (c .loop-k .widths) (c .loop-k .k) (c .number-at-in-loop-k .result) ∙ c .loop-k .inv .1
-    , filled (λ j. numberAt 4 (8 * j) (c .args .phases .now)) (c .loop-k .starts) (c .loop-k .k) (c .number-at .result) (c .loop-k .inv .0) (c .loop-k-test .taken) (c .number-at .ensures) (c .loop-k .inv .2)
-    , filled (λ j. numberAt 4 (8 * j + 4) (c .args .phases .now)) (c .loop-k .widths) (c .loop-k .k) (c .number-at-in-loop-k .result) (c .loop-k .inv .1) (c .loop-k-test .taken) (c .number-at-in-loop-k .ensures) (c .loop-k .inv .3)
-    )
+loop-k-again c = (
+  length-set (c .loop-k .starts) (c .loop-k .k) (c .number-at .result) ∙ c .loop-k .inv .0,
+  length-set (c .loop-k .widths) (c .loop-k .k) (c .number-at-in-loop-k .result) ∙ c .loop-k .inv .1,
+  filled (λ j. numberAt 4 (8 * j) (c .args .phases .now)) (c .loop-k .starts) (c .loop-k .k) (c .number-at .result) (c .loop-k .inv .0) (c .loop-k-test .taken) (c .number-at .ensures) (c .loop-k .inv .2),
+  filled (λ j. numberAt 4 (8 * j + 4) (c .args .phases .now)) (c .loop-k .widths) (c .loop-k .k) (c .number-at-in-loop-k .result) (c .loop-k .inv .1) (c .loop-k-test .taken) (c .number-at-in-loop-k .ensures) (c .loop-k .inv .3),
+)
 
 pub returns : need.returns
 returns c =

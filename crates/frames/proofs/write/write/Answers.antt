@@ -23,10 +23,10 @@ returns c =
     (λ ys. Written (contentOf (c .args .frame .now)) (c .args .out .now) (putMid (c .form-form .result .fixed) (c .form-form .result .fixed + length (c .listing-count .result .0 .now) - c .form-form .result .fixed) (c .put-fields .last .out) ys) (Ok (c .form-form .result .fixed + length (c .listing-count .result .0 .now))))
     (sym (c .copy-from-slice .ensures .after))
     (written (contentOf (c .args .frame .now)) (c .args .out .now) (c .put-fields .last .out) (c .listing-count .result .0 .now) (c .form-form .result .fixed) _
-        (c .put-fields .ensures .fit)
-        (whole-by (c .args .frame .now) length-is)
-        fixed
-        listed
-        (omega arith)
-        (omega arith)
-        (c .put-fields .ensures .after))
+    (c .put-fields .ensures .fit)
+    (whole-by (c .args .frame .now) length-is)
+    fixed
+    listed
+    (omega arith)
+    (omega arith)
+    (c .put-fields .ensures .after))

@@ -7,7 +7,7 @@ use native.Mathlib.Omega.{arith}
 use Rattle.std.proofs.shelf.Lists.{take-all}
 use Rattle.std.proofs.shelf.Ways.{tells}
 use Rattle.text.specs.Digits.{isHex, everyDigit, bytesOf, digitValue}
-use Rattle.text.proofs.Hex.{digit-at, bytes-length, byte-at}
+use Rattle.text.proofs.Hex.{digit-at, bytes-length, byte-at, spelled-back}
 use Rattle.text.proofs.Overlays.{overlay-more}
 use Rattle.text.proofs.digits.decode.Needs as need
 
@@ -37,10 +37,11 @@ returns c =
     let e : everyDigit (c .args .line .now) ≡ true = sym (c .if-not-all-digits .ensures tt) in
     let n = bytes-length (c .args .line .now) in
     let end : c .loop-k .k ≡ length (c .args .line .now) / 2 = omega arith in
-    let whole = take-all (length (c .args .line .now) / 2) (bytesOf (c .args .line .now)) (omega arith) in
-    ( grind (arith, tells)
-    , omega arith
-    , c .loop-k .inv
-      ∙ (ap (λ k. take k (bytesOf (c .args .line .now)) ++ drop k (c .args .room .now)) end
-      ∙ ap (λ bytes. bytes ++ drop (length (c .args .line .now) / 2) (c .args .room .now)) whole)
+    let whole = take-all (length (c .args .line .now) / 2) (bytesOf (c .args .line .now)) (omega arith) in (
+      grind (arith, tells),
+      omega arith,
+      c .loop-k .inv
+          ∙ (ap (λ k. take k (bytesOf (c .args .line .now)) ++ drop k (c .args .room .now)) end
+          ∙ ap (λ bytes. bytes ++ drop (length (c .args .line .now) / 2) (c .args .room .now)) whole),
+      spelled-back (c .args .line .now) (c .if-line-ne0 .left) e,
     )
