@@ -20,7 +20,6 @@ use Rattle.frames.specs.declared.kinds.Form.{Form}
 use Rattle.frames.specs.declared.Frame.{Frame}
 use Rattle.frames.specs.declared.read.NotAFrame.{NotAFrame}
 use Rattle.frames.specs.declared.rules.Rule.{Rule}
-use Rattle.frames.specs.declared.rules.Rule.the-variants.{Never, ThreeOccurrences, Always}
 use Rattle.frames.specs.Kinds.{widths, itemWidth, fixedWidth, formOf, kindOf}
 use Rattle.frames.specs.Rules.{ruleByte, ruleOf}
 use Rattle.frames.specs.Frames.{Content, apart, lastField, knownRule, isWhole, isFrame, frameAs, frameOf, numberAt, cut}

@@ -1,14 +1,13 @@
 -- What is written as a frame is read as that frame.
 use mathlib.Core.Path.{_≡_, refl, sym, ap, _∙_}
-use mathlib.Core.Bool.{true, false, cond, not, _&&_}
+use mathlib.Core.Bool.{true, cond, not}
 use mathlib.Core.List.{List, [], _∷_, _++_}
 use Prim.Native.Nat.{ℕ, zero, suc, _+_, _*_, _/_, _%_, _^_, _<_, _≤_}
 use lib.Arith.{mod-mul}
 use borrow.Rule.Slice.PartMut.{putMid}
 use lib.Dec.{leb, ltb}
 use lib.ListN.{length, getD, take, drop}
-use native.Mathlib.Nat.{mod-one, mod-eq-of-lt, pow-succ', mul-one}
-use native.Mathlib.Numerals.{one-add}
+use native.Mathlib.Nat.{mod-one, mod-eq-of-lt, pow-succ'}
 use native.Mathlib.Omega.{arith}
 use Rattle.std.specs.declared.option.Option.the-variants.{Some, None}
 use Rattle.std.specs.declared.result.Result.the-variants.{Ok}

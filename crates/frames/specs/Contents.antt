@@ -1,6 +1,6 @@
 -- What a frame of the code says, and what reading and writing one answer.
 use mathlib.Core.Path.{_≡_}
-use mathlib.Core.Bool.{Bool, true, false, cond, not, _&&_}
+use mathlib.Core.Bool.{cond, not}
 use mathlib.Core.List.{List, [], _∷_, _++_}
 use Prim.Native.Nat.{ℕ}
 use lib.Dec.{ltb}
@@ -17,8 +17,9 @@ use Rattle.frames.specs.declared.kinds.Kind.{Kind}
 use Rattle.frames.specs.declared.kinds.Kind.the-variants.{Schedule as ScheduleKind, Input as InputKind, Gate as GateKind, Latch as LatchKind, Feed as FeedKind, Couple as CoupleKind, Verify as VerifyKind, Seal as SealKind, Reopen as ReopenKind}
 use Rattle.frames.specs.declared.read.NotAFrame.{NotAFrame}
 use Rattle.frames.specs.Rules.{ruleByte}
-use Rattle.frames.specs.Frames.{Content, frameAs, frameOf, isFrame, isWhole, encode}
+use Rattle.frames.specs.Frames.{Content, frameAs, frameOf, isWhole, encode}
 
+-- the fields of a frame, in the order of the format
 abbrev pub contentOf : Frame → Content
 contentOf (Schedule period proximity count phases) = record { kind = ScheduleKind; numbers = period ∷ proximity ∷ count ∷ []; listed = phases .now }
 contentOf (Input phase earliest latest) = record { kind = InputKind; numbers = phase ∷ earliest ∷ latest ∷ []; listed = [] }

@@ -1,15 +1,12 @@
 -- Frames as bytes: a kind, its fixed fields, and what the frame lists.
-use mathlib.Core.Path.{_≡_}
-use mathlib.Core.Bool.{Bool, true, false, cond, not, _&&_}
+use mathlib.Core.Bool.{Bool, true, cond, _&&_}
 use mathlib.Core.List.{List, [], _∷_, _++_}
 use Prim.Native.Nat.{ℕ, zero, suc, _+_, _-_, _*_, _/_, _%_, _^_, _<_}
-use lib.Dec.{eqb, leb, ltb}
-use lib.ListN.{length, getD, take, drop}
+use lib.Dec.{eqb, leb}
+use lib.ListN.{length, getD, drop}
 use Rattle.std.specs.Options.{isSome}
 use Rattle.std.specs.declared.option.Option.{Option}
 use Rattle.std.specs.declared.option.Option.the-variants.{Some, None}
-use Rattle.std.specs.declared.result.Result.{Result}
-use Rattle.std.specs.declared.result.Result.the-variants.{Ok, Err}
 use Rattle.frames.specs.declared.kinds.Kind.{Kind}
 use Rattle.frames.specs.declared.kinds.Kind.the-variants.{Schedule, Input, Gate, Latch, Feed, Couple, Verify, Seal, Reopen}
 use Rattle.frames.specs.Kinds.{byteOf, widths, itemWidth, fixedWidth, kindOf}
@@ -81,9 +78,11 @@ isWhole f = eqb (length (f .listed)) (itemWidth (f .kind) * lastField f) && know
 abbrev pub apart : Kind → List ℕ → Content
 apart k bs = record { kind = k; numbers = cut (widths k) 1 bs; listed = drop (fixedWidth k) bs }
 
+-- long enough for the fixed fields, and whole
 abbrev pub isFrame : Kind → List ℕ → Bool
 isFrame k bs = leb (fixedWidth k) (length bs) && isWhole (apart k bs)
 
+-- the frame that bytes are as a kind, if they are one
 abbrev pub frameAs : Option Kind → List ℕ → Option Content
 frameAs None bs = None
 frameAs (Some k) bs = cond (isFrame k bs) (Some (apart k bs)) None

@@ -9,6 +9,7 @@ use Rattle.frames.specs.declared.kinds.Kind.{Kind}
 use Rattle.frames.specs.declared.kinds.Kind.the-variants.{Schedule, Input, Gate, Latch, Feed, Couple, Verify, Seal, Reopen}
 use Rattle.frames.specs.declared.kinds.Form.{Form}
 
+-- the first byte of each kind
 abbrev pub byteOf : Kind → ℕ
 byteOf Schedule = 1
 byteOf Input = 2
@@ -20,7 +21,7 @@ byteOf Verify = 7
 byteOf Seal = 8
 byteOf Reopen = 9
 
--- the widths of a kind's fixed fields
+-- the widths in bytes of a kind's fixed fields, in their order
 abbrev pub widths : Kind → List ℕ
 widths Schedule = 4 ∷ 4 ∷ 1 ∷ []
 widths Input = 1 ∷ 4 ∷ 4 ∷ []
@@ -52,10 +53,11 @@ total (w ∷ ws) = w + total ws
 abbrev pub fixedWidth : Kind → ℕ
 fixedWidth k = 1 + total (widths k)
 
+-- the row of a kind in the table of kinds
 abbrev pub formOf : Kind → Form
 formOf k = record { kind = k; byte = byteOf k; fixed = fixedWidth k; item = itemWidth k }
 
--- the table of all kinds
+-- the table of kinds
 abbrev pub forms : List Form
 forms = map formOf (Schedule ∷ Input ∷ Gate ∷ Latch ∷ Feed ∷ Couple ∷ Verify ∷ Seal ∷ Reopen ∷ [])
 

@@ -2,11 +2,10 @@
 use mathlib.Core.Path.{_≡_}
 use mathlib.Core.Bool.{Bool, true, false, _&&_}
 use mathlib.Core.List.{List, [], _∷_}
-use Prim.Native.Nat.{ℕ, zero, suc, _+_, _<_, _≤_}
+use Prim.Native.Nat.{ℕ, _+_, _<_, _≤_}
 use native.Mathlib.Omega.{arith}
-use lib.ListN.{length, getD, take, drop}
+use lib.ListN.{length, getD, drop}
 use Rattle.std.proofs.shelf.Lists.{at-drop-more, at-drop-all}
-use Rattle.schedule.specs.Clock.{every}
 
 -- F asks t of the first entry that is left, and goes on with G
 pub walk-more : (F G : List ℕ → Bool) (t b : Bool) (xs : List ℕ) (i : ℕ) → i < length xs
@@ -19,12 +18,3 @@ walk-stop F G t b xs i lt s h inv = let e = at-drop-more F xs i 0 lt in grind ar
 
 pub walk-all : (F : List ℕ → Bool) (b : Bool) (xs : List ℕ) (i : ℕ) → length xs ≤ i → F [] ≡ true → F (drop i xs) ≡ b → true ≡ b
 walk-all F b xs i le s inv = let e = at-drop-all F xs i le in cc
-
--- what each of the first n entries meets, entry k meets
-pub every-at : (p : ℕ → Bool) (n : ℕ) (xs : List ℕ) (k : ℕ) → every p (take n xs) ≡ true → k < n → n ≤ length xs → p (getD xs k 0) ≡ true
-every-at p zero xs k h lt le = absurd (omega arith)
-every-at p (suc n) [] k h lt le = absurd (omega arith)
-every-at p (suc n) (x ∷ xs) zero h lt le = grind arith
-every-at p (suc n) (x ∷ xs) (suc k) h lt le =
-    let t : every p (take n xs) ≡ true = grind arith in
-    every-at p n xs k t (omega arith) (omega arith)

@@ -1,6 +1,6 @@
 -- What is printed for a line, and for a whole text.
 use mathlib.Core.Path.{_≡_}
-use mathlib.Core.Bool.{Bool, true, false, cond}
+use mathlib.Core.Bool.{cond}
 use mathlib.Core.List.{List, [], _∷_, _++_}
 use Prim.Native.Nat.{ℕ, _<_, _≤_}
 use lib.Dec.{leb}
@@ -28,6 +28,7 @@ framed clock (Some f) = taken clock f
 abbrev pub answered : Option Clock → List ℕ → Outcome
 answered clock line = cond (isHex line) (framed clock (frameOf (bytesOf line))) (refused clock Digits)
 
+-- a granted line is answered with 0, a refused one with the number of its refusal
 abbrev pub numberFor : Option Refusal → ℕ
 numberFor None = 0
 numberFor (Some why) = numberOf why

@@ -1,5 +1,4 @@
 // A session with a book: lines of a text in, printed lines out.
-ghost use mathlib.Core.Path.{_≡_};
 ghost use Rattle.book.specs.Taking.{clockOf, Agrees};
 ghost use Rattle.session.specs.Printing.{answered, Admitted, Put, Answered};
 use book::Book;

@@ -12,9 +12,11 @@ use Rattle.refusals.specs.declared.Refusal.the-variants.{Digits as DigitsRefusa
 use Rattle.text.specs.declared.digits.Undecoded.{Undecoded}
 use Rattle.text.specs.declared.digits.Undecoded.the-variants.{NotDigits, TooLong}
 
+-- 0 to 9 or A to F
 abbrev pub isDigit : ℕ → Bool
 isDigit c = (leb 48 c && leb c 57) || (leb 65 c && leb c 70)
 
+-- what a digit counts: 0 to 15
 abbrev pub digitValue : ℕ → ℕ
 digitValue c = cond (leb c 57) (c - 48) (c - 55)
 
@@ -22,7 +24,7 @@ abbrev pub everyDigit : List ℕ → Bool
 everyDigit [] = true
 everyDigit (c ∷ cs) = isDigit c && everyDigit cs
 
--- a line that passes the test of digits
+-- a line that passes the test of digits: not empty, a whole number of bytes, and nothing but digits
 abbrev pub isHex : List ℕ → Bool
 isHex line = not (eqb (length line) 0) && (eqb (length line % 2) 0 && everyDigit line)
 
@@ -32,9 +34,11 @@ bytesOf [] = []
 bytesOf (h ∷ []) = []
 bytesOf (h ∷ (l ∷ cs)) = (digitValue h * 16 + digitValue l) ∷ bytesOf cs
 
+-- the digit that counts v
 abbrev pub digitFor : ℕ → ℕ
 digitFor v = cond (ltb v 10) (48 + v) (55 + v)
 
+-- a byte in two digits
 abbrev pub digitsOf : ℕ → List ℕ
 digitsOf b = digitFor (b / 16) ∷ digitFor (b % 16) ∷ []
 
@@ -43,7 +47,7 @@ abbrev pub spelled : List ℕ → List ℕ
 spelled [] = []
 spelled (b ∷ bs) = digitsOf b ++ spelled bs
 
--- the most bytes that a frame can have
+-- the most bytes that a frame can have: those of a schedule that lists 255 phases
 abbrev pub longest : ℕ
 longest = 2050
 

@@ -32,7 +32,7 @@ front (c ∷ cs) = cond (eqb c lineFeed) 0 (suc (front cs))
 abbrev pub left : Lines → List ℕ
 left r = drop (r .place) (r .text .now)
 
--- the next line is the first of those that are left, and its number is one more than the last
+-- the next line is the first of those that are left, and its number is one more than how many were handed out before it
 abbrev pub Handed : Lines → Lines → Option Line → Type 0
 Handed r s None = (left r ≡ []) × (s ≡ r)
 Handed r s (Some l) = (linesOf (left r) ≡ l .bytes .now ∷ linesOf (left s)) × (l .number ≡ r .count + 1) × (s .count ≡ l .number)

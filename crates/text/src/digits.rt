@@ -1,9 +1,8 @@
 // Hexadecimal digits: a line read as bytes, and a byte written as two digits.
 ghost use mathlib.Core.Path.{_≡_};
-ghost use mathlib.Core.Bool.{true, false, not};
-ghost use mathlib.Core.List.{List, [], _∷_, _++_};
-ghost use Prim.Native.Nat.{ℕ, _+_, _*_, _/_, _<_, _≤_};
-ghost use lib.ListN.{length, getD, drop};
+ghost use mathlib.Core.Bool.{true, false};
+ghost use mathlib.Core.List.{[], _∷_};
+ghost use Prim.Native.Nat.{_+_, _*_, _/_, _<_};
 ghost use Rattle.text.specs.Digits.{isDigit, digitValue, digitFor, everyDigit, isHex, bytesOf, digitsOf, Decoded, undecodedRefusal};
 use refusals::Refusal;
 

@@ -1,7 +1,7 @@
 use mathlib.Core.Path.{_≡_, ap, sym, subst, _∙_}
 use Rattle.frames.specs.Contents.{contentOf}
 use Rattle.schedule.specs.Made.{drawn}
-use Rattle.book.specs.Taking.{clockOf, clocked, taken, Agrees, Taken, Outcome}
+use Rattle.book.specs.Taking.{clockOf, clocked, taken, Agrees}
 use Rattle.book.proofs.Book.take.Needs as need
 
 pub returns-in-Schedule : need.returns-in-Schedule

@@ -6,7 +6,7 @@ use lib.ListN.{length, getD, set, take, drop}
 use native.Mathlib.Omega.{arith}
 use Rattle.std.proofs.shelf.Lists.{take-all}
 use Rattle.std.proofs.shelf.Ways.{tells}
-use Rattle.text.specs.Digits.{isHex, everyDigit, bytesOf, digitValue}
+use Rattle.text.specs.Digits.{everyDigit, bytesOf}
 use Rattle.text.proofs.Hex.{digit-at, bytes-length, byte-at, spelled-back}
 use Rattle.text.proofs.Overlays.{overlay-more}
 use Rattle.text.proofs.digits.decode.Needs as need
