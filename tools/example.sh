@@ -7,6 +7,7 @@ cd "$(dirname "$0")/.."
 
 # The program is proved before it is built; later runs take what is there.
 if [ ! -x target/bin/clockmark ]; then
+  echo 'proving and building clockmark: this takes some minutes the first time' >&2
   rt check clockmark > /dev/null
 fi
 
