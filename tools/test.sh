@@ -15,7 +15,7 @@ case "$verdict" in
 esac
 
 if ! bash tests/program.sh; then
-  echo 'tests/program.sh failed' >&2
+  echo 'tests/program.sh failed: the gate passed, but not what runs after it'
   exit 1
 fi
 printf '%s\n' "$verdict"
