@@ -13,6 +13,7 @@ use text::lines::Lines;
 
 // Prints the answer to each line of a text, or one refusal of the whole text.
 fn mark<W: Write>(text: &[u8], out: &mut W) -> io::Result<()> {
+    // Long enough for a printed line, so that no call below is refused as short.
     let mut room = [0; PRINTED];
     if let Err(refusal) = admit(text) {
         if let Ok(count) = put_number(refusal.number(), &mut room) {

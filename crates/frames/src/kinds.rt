@@ -25,6 +25,7 @@ pub struct Form {
     pub item: usize,
 }
 
+// In the order of `Kind`, so that a kind is also the place of its form.
 const FORMS: [Form; 9] = [
     Form {
         kind: Kind::Schedule,

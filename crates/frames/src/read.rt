@@ -28,6 +28,8 @@ pub impl From<NotAFrame> for Refusal as RefusalFromNotAFrame {
     }
 }
 
+// The functions of the kinds take apart bytes whose length was tested: the last arm, which a slice pattern
+// wants, is never taken.
 fn schedule(bytes: &[u8]) -> Result<Frame<'_>, NotAFrame>
     requires { ⌜ isFrame Kind.Schedule (now bytes) ≡ true ⌝ }
     ensures { λ r. ⌜ ReadAs (Known Kind.Schedule) (now (bytes .entry)) r ⌝ }
