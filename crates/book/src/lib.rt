@@ -1,4 +1,5 @@
 // A book: unopened, or open under a schedule.
+#![tactic(auto)]
 use schedule::Schedule;
 
 mod figures;

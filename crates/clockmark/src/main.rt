@@ -1,4 +1,5 @@
 // clockmark: reads a text of frames from standard input, and prints a line for each line read.
+#![tactic(auto)]
 use book::Book;
 use session::{GREATEST_TEXT, PRINTED, admit, answer, put_number};
 use std::io;

@@ -1,4 +1,5 @@
 // A book in whichever state, and calls on it as data.
+#![tactic(auto)]
 use states::{Draft, Sealed};
 
 mod apply;

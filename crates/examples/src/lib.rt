@@ -1,4 +1,5 @@
 // Worked examples over the whole library: calls and their answers, states, texts in and out.
+#![tactic(auto)]
 #[cfg(test)]
 mod answers;
 #[cfg(test)]

@@ -1,4 +1,6 @@
 // Frames: what a line of a text says, once its digits are read.
+#![tactic(auto)]
+
 use rules::Rule;
 
 pub mod kinds;

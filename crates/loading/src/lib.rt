@@ -1,4 +1,5 @@
 // Lines and whole texts put to a book.
+#![tactic(auto)]
 mod calls;
 mod figures;
 pub mod hear;

@@ -1,4 +1,6 @@
 // The fourteen refusals with their numbers, the layer that gives each, and the fault of a whole text.
+#![tactic(auto)]
+
 ghost use Rattle.std.specs.Prelude.{◌≡◌};
 ghost use Rattle.refusals.specs.Numbers.{number_of};
 ghost use Rattle.refusals.specs.Layers.{layer_of, fault_of};

@@ -1,4 +1,6 @@
 // A clock schedule: its period, its proximity, and the start and the open width of each of its phases.
+#![tactic(auto)]
+
 ghost use Rattle.std.specs.Prelude.{◌≡◌, true};
 ghost use Rattle.schedule.specs.Clock.{lawful, cleared_places};
 

@@ -1,4 +1,5 @@
 // A book whose state is a type: a draft takes rows, feeds and couplings, a sealed table takes none.
+#![tactic(auto)]
 use counts::Counts;
 use refusals::Refusal;
 
