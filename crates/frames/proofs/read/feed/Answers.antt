@@ -6,7 +6,7 @@ use Rattle.frames.proofs.read.feed.Goals as goal
 
 pub returns-in-len5 : goal.returns-in-len5
 returns-in-len5 c =
-    let latch : number_at 2 1 c.args.bytes.now ≡ c.from-be-bytes.result = omega arith in
-    let source : number_at 2 3 c.args.bytes.now ≡ c.from-be-bytes-in-len5.result = omega arith in
+    let latch : number_at 2 1 c.args.bytes.now ≡ c.from_be_bytes.result = omega arith in
+    let source : number_at 2 3 c.args.bytes.now ≡ c.from_be_bytes-in-len5.result = omega arith in
     let none = unlisted Feed c.args.bytes.now refl c.requires in
     frame_at Feed c.args.bytes.now c.requires (cc)

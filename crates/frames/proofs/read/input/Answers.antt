@@ -7,7 +7,7 @@ use Rattle.frames.proofs.read.input.Goals as goal
 pub returns-in-len10 : goal.returns-in-len10
 returns-in-len10 c =
     let phase : number_at 1 1 c.args.bytes.now ≡ get_or c.args.bytes.now 1 0 = omega arith in
-    let earliest : number_at 4 2 c.args.bytes.now ≡ c.from-be-bytes.result = omega arith in
-    let latest : number_at 4 6 c.args.bytes.now ≡ c.from-be-bytes-in-len10.result = omega arith in
+    let earliest : number_at 4 2 c.args.bytes.now ≡ c.from_be_bytes.result = omega arith in
+    let latest : number_at 4 6 c.args.bytes.now ≡ c.from_be_bytes-in-len10.result = omega arith in
     let none = unlisted Input c.args.bytes.now refl c.requires in
     frame_at Input c.args.bytes.now c.requires (cc)

@@ -7,9 +7,9 @@ use Rattle.frames.proofs.read.latch.Goals as goal
 pub returns-in-len18 : goal.returns-in-len18
 returns-in-len18 c =
     let phase : number_at 1 1 c.args.bytes.now ≡ get_or c.args.bytes.now 1 0 = omega arith in
-    let least : number_at 4 2 c.args.bytes.now ≡ c.from-be-bytes.result = omega arith in
-    let greatest : number_at 4 6 c.args.bytes.now ≡ c.from-be-bytes-in-len18.result = omega arith in
-    let setup : number_at 4 10 c.args.bytes.now ≡ c.from-be-bytes-in-len18-2.result = omega arith in
-    let hold : number_at 4 14 c.args.bytes.now ≡ c.from-be-bytes-in-len18-3.result = omega arith in
+    let least : number_at 4 2 c.args.bytes.now ≡ c.from_be_bytes.result = omega arith in
+    let greatest : number_at 4 6 c.args.bytes.now ≡ c.from_be_bytes-in-len18.result = omega arith in
+    let setup : number_at 4 10 c.args.bytes.now ≡ c.from_be_bytes-in-len18-2.result = omega arith in
+    let hold : number_at 4 14 c.args.bytes.now ≡ c.from_be_bytes-in-len18-3.result = omega arith in
     let none = unlisted Latch c.args.bytes.now refl c.requires in
     frame_at Latch c.args.bytes.now c.requires (cc)

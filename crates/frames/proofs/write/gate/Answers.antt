@@ -7,4 +7,4 @@ returns c =
     let least : c.args.least / 1 ≡ c.args.least = div-one c.args.least in
     let greatest : c.args.greatest / 1 ≡ c.args.greatest = div-one c.args.greatest in
     let count : c.args.count / 1 % 256 ≡ c.args.count = omega arith in
-    simp (c.form-kind.ensures, c.to-be-bytes.ensures, c.to-be-bytes-2.ensures, phase, least, greatest, count)
+    simp (c.form-kind.ensures, c.to_be_bytes.ensures, c.to_be_bytes-2.ensures, phase, least, greatest, count)

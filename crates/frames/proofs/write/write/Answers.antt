@@ -16,13 +16,13 @@ returns c =
     let equal = c.if-listed-form.false in
     let length-is : length (content_of c.args.frame.now).listed ≡ item_width (content_of c.args.frame.now).kind * count_of c.args.frame.now = cc in
     subst
-    (λ ys. Written (content_of c.args.frame.now) c.args.out.now (put_mid c.form-form.result.fixed (c.form-form.result.fixed + length c.listing-count.result.0.now - c.form-form.result.fixed) c.put-fields.new.out ys) (Ok (c.form-form.result.fixed + length c.listing-count.result.0.now)))
-    (sym c.copy-from-slice.ensures.after)
-    (written (content_of c.args.frame.now) c.args.out.now c.put-fields.new.out c.listing-count.result.0.now c.form-form.result.fixed _
-    c.put-fields.ensures.fit
+    (λ ys. Written (content_of c.args.frame.now) c.args.out.now (put_mid c.form-form.result.fixed (c.form-form.result.fixed + length c.listing-count.result.0.now - c.form-form.result.fixed) c.put_fields.new.out ys) (Ok (c.form-form.result.fixed + length c.listing-count.result.0.now)))
+    (sym c.copy_from_slice.ensures.after)
+    (written (content_of c.args.frame.now) c.args.out.now c.put_fields.new.out c.listing-count.result.0.now c.form-form.result.fixed _
+    c.put_fields.ensures.fit
     (whole_by c.args.frame.now length-is)
     fixed
     listed
     (omega arith)
     (omega arith)
-    c.put-fields.ensures.after)
+    c.put_fields.ensures.after)

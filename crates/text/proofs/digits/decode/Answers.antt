@@ -8,7 +8,7 @@ use Rattle.text.proofs.digits.decode.Goals as goal
 
 pub returns-then-count-gt-LONGEST : goal.returns-then-count-gt-LONGEST
 returns-then-count-gt-LONGEST c =
-    let e : every_digit c.args.line.now ≡ true = sym c.if-not-all-digits.ensures in
+    let e : every_digit c.args.line.now ≡ true = sym c.if-not-all_digits.ensures in
     (grind (arith, nat_tests), omega (arith, bytes_length c.args.line.now), refl)
 
 pub digit-value-requires : goal.digit-value-requires
@@ -21,15 +21,15 @@ digit-value-requires-in-loop-k c =
 pub loop-k-preserved : goal.loop-k-preserved
 loop-k-preserved c =
     let at = byte_at c.args.line.now c.loop-k.k (omega arith) in
-    let high = c.digit-value.ensures.0 in
-    let low = c.digit-value-in-loop-k.ensures.0 in
-    let byte : c.digit-value.result * 16 + c.digit-value-in-loop-k.result ≡ get_or (bytes_of c.args.line.now) c.loop-k.k 0 = cc in
-    ap (λ room. set room c.loop-k.k (c.digit-value.result * 16 + c.digit-value-in-loop-k.result)) c.loop-k.invariant
+    let high = c.digit_value.ensures.0 in
+    let low = c.digit_value-in-loop-k.ensures.0 in
+    let byte : c.digit_value.result * 16 + c.digit_value-in-loop-k.result ≡ get_or (bytes_of c.args.line.now) c.loop-k.k 0 = cc in
+    ap (λ room. set room c.loop-k.k (c.digit_value.result * 16 + c.digit_value-in-loop-k.result)) c.loop-k.invariant
     ∙ overlay_more (bytes_of c.args.line.now) c.args.room.now c.loop-k.k _ 0 (omega (arith, bytes_length c.args.line.now)) (omega arith) byte
 
 pub returns : goal.returns
 returns c =
-    let e : every_digit c.args.line.now ≡ true = sym c.if-not-all-digits.ensures in
+    let e : every_digit c.args.line.now ≡ true = sym c.if-not-all_digits.ensures in
     let n = bytes_length c.args.line.now in
     let end : c.loop-k.k ≡ length c.args.line.now / 2 = omega arith in
     let whole = take_all (length c.args.line.now / 2) (bytes_of c.args.line.now) (omega arith) in (

@@ -9,9 +9,9 @@ returns-then-start-text c = (drop_all c.args.self.now.place c.args.self.now.text
 
 pub returns : goal.returns
 returns c = (
-  first_line c.args.self.now.text.now c.args.self.now.place c.line-end-end.result c.if-end-text.place
+  first_line c.args.self.now.text.now c.args.self.now.place c.line_end-end.result c.if-end-text.place
       c.if-start-text.false
-      c.line-end-end.ensures.0
+      c.line_end-end.ensures.0
       (elim c.if-end-text.branch [ then-end-text w ↦ inl w.place-is | else-end-text w ↦ inr (w.place-is, omega arith) ]),
   refl,
   refl,
