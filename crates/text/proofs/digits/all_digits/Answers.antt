@@ -8,8 +8,8 @@ use Rattle.text.proofs.digits.all_digits.Goals as goal
 more : (xs : List ℕ) (i : ℕ) → i < length xs → every_digit (drop i xs) ≡ (is_digit (get_or xs i 0) && every_digit (drop (i + 1) xs))
 more xs i h = at_drop_more every_digit xs i 0 h
 
-pub returns-then-not-is-digit : goal.returns-then-not-is-digit
-returns-then-not-is-digit c =
+pub returns-then-not-is_digit : goal.returns-then-not-is_digit
+returns-then-not-is_digit c =
     let e = more c.args.line.now c.loop-character.character-index (omega arith) in grind (arith, nat_tests)
 
 pub loop-character-preserved : goal.loop-character-preserved

@@ -11,12 +11,12 @@ returns-then-count-gt-LONGEST c =
     let e : every_digit c.args.line.now ≡ true = sym c.if-not-all_digits.ensures in
     (grind (arith, nat_tests), omega (arith, bytes_length c.args.line.now), refl)
 
-pub digit-value-requires : goal.digit-value-requires
-digit-value-requires c = digit_at c.args.line.now (2 * c.loop-k.k) (sym c.if-not-all-digits.ensures) (omega arith)
+pub digit_value-requires : goal.digit_value-requires
+digit_value-requires c = digit_at c.args.line.now (2 * c.loop-k.k) (sym c.if-not-all_digits.ensures) (omega arith)
 
-pub digit-value-requires-in-loop-k : goal.digit-value-requires-in-loop-k
-digit-value-requires-in-loop-k c =
-    digit_at c.args.line.now (2 * c.loop-k.k + 1) (sym c.if-not-all-digits.ensures) (omega arith)
+pub digit_value-requires-in-loop-k : goal.digit_value-requires-in-loop-k
+digit_value-requires-in-loop-k c =
+    digit_at c.args.line.now (2 * c.loop-k.k + 1) (sym c.if-not-all_digits.ensures) (omega arith)
 
 pub loop-k-preserved : goal.loop-k-preserved
 loop-k-preserved c =

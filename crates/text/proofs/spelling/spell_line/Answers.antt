@@ -14,7 +14,7 @@ returns-then-place-out c =
     elim c.then-place-out.branch [ then-place-out-via-then-place-out w ↦ omega (arith, length_line bs, w.if-place-out.true) | then-place-out-via-else-place-out+then-bytes-out w ↦ omega (arith, length_line bs, w.if-place-out.false, w.if-bytes-out.true) ] in
     record {
       line = (short, refl, refl);
-      back = bytes_spelled bs (bytes_from bs (λ i. omega (arith, c.type-inv.bytes i)));
+      back = bytes_spelled bs (bytes_from bs (λ i. omega (arith, c.type_inv.bytes i)));
     }
 
 pub returns : goal.returns
@@ -23,5 +23,5 @@ returns c =
     let end = c.args.place + 2 * length bs in
     record {
       line = (omega (arith, length_line bs), omega arith, laid_more c.args.out.now (spelled bs) c.spell.new.out c.args.place end (end + 1) line_feed c.spell.ensures (omega (arith, length-spelled bs)) (omega arith) refl);
-      back = bytes_spelled bs (bytes_from bs (λ i. omega (arith, c.type-inv.bytes i)));
+      back = bytes_spelled bs (bytes_from bs (λ i. omega (arith, c.type_inv.bytes i)));
     }
