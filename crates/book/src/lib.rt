@@ -1,5 +1,6 @@
 // A book: unopened, or open under a schedule.
 #![tactic(auto)]
+
 use schedule::Schedule;
 
 mod figures;

@@ -12,9 +12,9 @@ filled f xs i v n h e inv k l = ap (λ w. get_or (set xs i w) k 0) e ∙ fill_by
 
 pub loop-k-preserved : goal.loop-k-preserved
 loop-k-preserved c = (
-  length-set c.loop-k.starts c.loop-k.k c.number_at_lem.result ∙ c.loop-k.invariant.0,
+  length-set c.loop-k.starts c.loop-k.k c.number_at.result ∙ c.loop-k.invariant.0,
   length-set c.loop-k.widths c.loop-k.k c.number_at-in-loop-k.result ∙ c.loop-k.invariant.1,
-  filled (λ j. number_at 4 (8 * j) c.args.phases.now) c.loop-k.starts c.loop-k.k c.number_at_lem.result c.loop-k.invariant.0 c.loop-k-test.true c.number_at_lem.ensures c.loop-k.invariant.2,
+  filled (λ j. number_at 4 (8 * j) c.args.phases.now) c.loop-k.starts c.loop-k.k c.number_at.result c.loop-k.invariant.0 c.loop-k-test.true c.number_at.ensures c.loop-k.invariant.2,
   filled (λ j. number_at 4 (8 * j + 4) c.args.phases.now) c.loop-k.widths c.loop-k.k c.number_at-in-loop-k.result c.loop-k.invariant.1 c.loop-k-test.true c.number_at-in-loop-k.ensures c.loop-k.invariant.3,
 )
 
