@@ -1,5 +1,6 @@
 // A session with a book: lines of a text in, printed lines out.
 #![tactic(auto)]
+
 ghost use Rattle.book.specs.Taking.{clock_of, Agrees};
 ghost use Rattle.session.specs.Printing.{answered, Admitted, Put, Answered};
 
