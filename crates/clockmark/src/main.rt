@@ -1,5 +1,6 @@
 // clockmark: reads a text of frames from standard input, and prints a line for each line read.
 #![tactic(auto)]
+
 use book::Book;
 use session::{GREATEST_TEXT, PRINTED, admit, answer, put_number};
 use std::io;
