@@ -8,7 +8,7 @@ use Rattle.listing.proofs.lines.bytes_of_sources.Goals as goal
 pub loop-k-preserved : goal.loop-k-preserved
 loop-k-preserved c = (
   simp length-set c.loop-k.invariant.0,
-  sources_more c.args.sources.now c.loop-k.bytes c.to-be-bytes.result c.loop-k.k c.loop-k-test.true (omega arith) c.loop-k.invariant.1 c.to-be-bytes.ensures,
+  sources_more c.args.sources.now c.loop-k.bytes c.to_be_bytes.result c.loop-k.k c.loop-k-test.true (omega arith) c.loop-k.invariant.1 c.to_be_bytes.ensures,
 )
 
 pub returns : goal.returns

@@ -13,12 +13,12 @@ pub loop-coupling-preserved : goal.loop-coupling-preserved
 loop-coupling-preserved c =
     let ks = c.args.couplings.now in
     let k = c.loop-coupling.coupling-index in (
-      appends_more (map couple_frame (take k ks)) (couple_frame (get_or ks k no_coupling) ∷ []) _ c.args.place c.loop-coupling.end c.put-coupling-end.result c.args.out.now c.loop-coupling.out c.put-coupling-end.new.out
+      appends_more (map couple_frame (take k ks)) (couple_frame (get_or ks k no_coupling) ∷ []) _ c.args.place c.loop-coupling.end c.put_coupling-end.result c.args.out.now c.loop-coupling.out c.put_coupling-end.new.out
           (map_more couple_frame ks k no_coupling c.loop-coupling-test.true)
           c.loop-coupling.invariant.0
-          c.put-coupling-end.ensures.lines
+          c.put_coupling-end.ensures.lines
           c.loop-coupling.auto.out,
-      omega (arith, c.loop-coupling.invariant.1, c.put-coupling-end.ensures.near),
+      omega (arith, c.loop-coupling.invariant.1, c.put_coupling-end.ensures.near),
     )
 
 pub returns : goal.returns

@@ -5,8 +5,8 @@ use Rattle.listing.proofs.Joins.{appends_none, appends_as}
 use Rattle.listing.proofs.Sizes.{one_within, feed_within, feed_lines}
 use Rattle.listing.proofs.lines.put_feed.Goals as goal
 
-pub put-line-requires : goal.put-line-requires
-put-line-requires c =
+pub put_line-requires : goal.put_line-requires
+put_line-requires c =
     let x = c.args.node.now in
     let r = one_within 5 (content_of c.in-Some.frame) (feed_frame c.args.latch x) c.in-Some.ensures (feed_within c.args.latch x) in
     (r.0, (omega (arith, r.1), c.requires))
@@ -14,7 +14,7 @@ put-line-requires c =
 pub returns-in-Some : goal.returns-in-Some
 returns-in-Some c =
     let x = c.args.node.now in
-    let r = appends_as (content_of c.in-Some.frame ∷ []) (feed_frame c.args.latch x) c.args.place c.put-line.result c.args.out.now c.put-line.new.out 11 c.in-Some.ensures c.put-line.ensures (feed_lines c.args.latch x) in
+    let r = appends_as (content_of c.in-Some.frame ∷ []) (feed_frame c.args.latch x) c.args.place c.put_line.result c.args.out.now c.put_line.new.out 11 c.in-Some.ensures c.put_line.ensures (feed_lines c.args.latch x) in
     record { lines = r.0; near = r.1 }
 
 pub returns-in-None : goal.returns-in-None

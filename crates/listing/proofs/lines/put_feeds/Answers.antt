@@ -13,12 +13,12 @@ pub loop-k-preserved : goal.loop-k-preserved
 loop-k-preserved c =
     let xs = c.args.nodes.now in
     let k = c.loop-k.k in (
-      appends_more (feed_frames 0 (take k xs)) (feed_frame k (get_or xs k Free)) _ c.args.place c.loop-k.end c.put-feed-end.result c.args.out.now c.loop-k.out c.put-feed-end.new.out
+      appends_more (feed_frames 0 (take k xs)) (feed_frame k (get_or xs k Free)) _ c.args.place c.loop-k.end c.put_feed-end.result c.args.out.now c.loop-k.out c.put_feed-end.new.out
           (feeds_more xs k Free c.loop-k-test.true)
           c.loop-k.invariant.0
-          c.put-feed-end.ensures.lines
+          c.put_feed-end.ensures.lines
           c.loop-k.auto.out,
-      omega (arith, c.loop-k.invariant.1, c.put-feed-end.ensures.near),
+      omega (arith, c.loop-k.invariant.1, c.put_feed-end.ensures.near),
     )
 
 pub returns : goal.returns

@@ -13,12 +13,12 @@ pub loop-node-preserved : goal.loop-node-preserved
 loop-node-preserved c =
     let xs = c.args.nodes.now in
     let k = c.loop-node.node-index in (
-      appends_more (joined (map node_frame (take k xs))) (node_frame (get_or xs k Free)) _ c.args.place c.loop-node.end c.put-node-end.result c.args.out.now c.loop-node.out c.put-node-end.new.out
+      appends_more (joined (map node_frame (take k xs))) (node_frame (get_or xs k Free)) _ c.args.place c.loop-node.end c.put_node-end.result c.args.out.now c.loop-node.out c.put_node-end.new.out
           (joined-more node_frame xs k Free c.loop-node-test.true)
           c.loop-node.invariant.0
-          c.put-node-end.ensures.lines
+          c.put_node-end.ensures.lines
           c.loop-node.auto.out,
-      omega (arith, c.loop-node.invariant.1, c.put-node-end.ensures.near),
+      omega (arith, c.loop-node.invariant.1, c.put_node-end.ensures.near),
     )
 
 pub returns : goal.returns

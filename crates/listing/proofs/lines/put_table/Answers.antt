@@ -11,10 +11,10 @@ returns c =
     let nodes = joined (map node_frame c.args.nodes.now) in
     let feeds = feed_frames 0 c.args.nodes.now in
     let couples = map couple_frame c.args.couplings.now in
-    let a = c.put-schedule-end in
-    let b = c.put-nodes-end in
-    let d = c.put-feeds-end in
-    let e = c.put-couplings in
+    let a = c.put_schedule-end in
+    let b = c.put_nodes-end in
+    let d = c.put_feeds-end in
+    let e = c.put_couplings in
     let rest : Appends (feeds ++ couples) b.result b.new.out e.result e.new.out = appends_then feeds couples b.result d.result e.result b.new.out d.new.out e.new.out d.ensures.lines e.ensures d.auto.out in
     let rows : Appends (nodes ++ (feeds ++ couples)) a.result a.new.out e.result e.new.out = appends_then nodes (feeds ++ couples) a.result b.result e.result a.new.out b.new.out e.new.out b.ensures.lines rest b.auto.out in
     appends_then first (nodes ++ (feeds ++ couples)) 0 a.result e.result c.args.out.now a.new.out e.new.out a.ensures.lines rows a.auto.out

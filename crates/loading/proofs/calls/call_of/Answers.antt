@@ -14,7 +14,7 @@ asks_open : (opened : Bool) (clock figures : Clock) → opened ≡ false → fig
 asks_open opened clock figures e f = cc
 
 pub returns-then-opened : goal.returns-then-opened
-returns-then-opened c = ap (λ f. asks c.args.opened (content_of f)) c.in-Schedule.is ∙ asks_retime c.args.opened _ _ c.if-opened.true c.figures-of-figures.ensures
+returns-then-opened c = ap (λ f. asks c.args.opened (content_of f)) c.in-Schedule.is ∙ asks_retime c.args.opened _ _ c.if-opened.true c.figures_of-figures.ensures
 
 pub returns-else-opened : goal.returns-else-opened
-returns-else-opened c = ap (λ f. asks c.args.opened (content_of f)) c.in-Schedule.is ∙ asks_open c.args.opened _ _ c.if-opened.false c.figures-of-figures.ensures
+returns-else-opened c = ap (λ f. asks c.args.opened (content_of f)) c.in-Schedule.is ∙ asks_open c.args.opened _ _ c.if-opened.false c.figures_of-figures.ensures

@@ -7,8 +7,8 @@ use Rattle.loading.proofs.calls.list_sources.Goals as goal
 
 pub loop-k-preserved : goal.loop-k-preserved
 loop-k-preserved c = (
-  length-set c.loop-k.room c.loop-k.k c.source-at.result ∙ c.loop-k.invariant.0,
-  filled (λ j. number_at 2 (2 * j) c.args.bytes.now) c.loop-k.room c.loop-k.k c.source-at.result (omega arith) c.source-at.ensures c.loop-k.invariant.1,
+  length-set c.loop-k.room c.loop-k.k c.source_at.result ∙ c.loop-k.invariant.0,
+  filled (λ j. number_at 2 (2 * j) c.args.bytes.now) c.loop-k.room c.loop-k.k c.source_at.result (omega arith) c.source_at.ensures c.loop-k.invariant.1,
 )
 
 pub returns : goal.returns

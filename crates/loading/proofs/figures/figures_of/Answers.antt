@@ -9,9 +9,9 @@ use Rattle.loading.proofs.figures.figures_of.Goals as goal
 pub loop-k-preserved : goal.loop-k-preserved
 loop-k-preserved c = (
   length-set c.loop-k.starts c.loop-k.k c.number_at.result ∙ c.loop-k.invariant.0,
-  length-set c.loop-k.widths c.loop-k.k c.number-at-in-loop-k.result ∙ c.loop-k.invariant.1,
+  length-set c.loop-k.widths c.loop-k.k c.number_at-in-loop-k.result ∙ c.loop-k.invariant.1,
   filled (λ j. number_at 4 (8 * j) c.args.phases.now) c.loop-k.starts c.loop-k.k c.number_at.result (omega (arith, c.loop-k.invariant.0)) c.number_at.ensures c.loop-k.invariant.2,
-  filled (λ j. number_at 4 (8 * j + 4) c.args.phases.now) c.loop-k.widths c.loop-k.k c.number-at-in-loop-k.result (omega (arith, c.loop-k.invariant.1)) c.number-at-in-loop-k.ensures c.loop-k.invariant.3,
+  filled (λ j. number_at 4 (8 * j + 4) c.args.phases.now) c.loop-k.widths c.loop-k.k c.number_at-in-loop-k.result (omega (arith, c.loop-k.invariant.1)) c.number_at-in-loop-k.ensures c.loop-k.invariant.3,
 )
 
 pub returns : goal.returns

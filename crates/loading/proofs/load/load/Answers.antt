@@ -21,6 +21,6 @@ loop-line-preserved c =
     let number : c.loop-line.granted + 1 ≡ c.in-Some.line.number = ap (λ n. n + 1) c.loop-line.invariant.0 ∙ sym c.in-Some.ensures.1 in
     let heard : Heard c.loop-line.book loan c.in-Some.line.bytes.now c.hear.new.book loan' c.hear.result = c.hear.ensures in
     let going : Going start c.args.text.now (c.loop-line.granted + 1) c.hear.new.book loan' (left c.next.new.self) =
-    go_on start c.args.text.now c.loop-line.granted c.loop-line.book c.hear.new.book loan loan' (left c.loop-line.lines) (left c.next.new.self) c.in-Some.line.bytes.now c.in-default-hear.field-0
-    c.loop-line.invariant.1 c.in-Some.ensures.0 same (subst (λ r. Heard c.loop-line.book loan c.in-Some.line.bytes.now c.hear.new.book loan' r) c.in-default-hear.is heard) in
+    go_on start c.args.text.now c.loop-line.granted c.loop-line.book c.hear.new.book loan loan' (left c.loop-line.lines) (left c.next.new.self) c.in-Some.line.bytes.now c.in_default-hear.field-0
+    c.loop-line.invariant.1 c.in-Some.ensures.0 same (subst (λ r. Heard c.loop-line.book loan c.in-Some.line.bytes.now c.hear.new.book loan' r) c.in_default-hear.is heard) in
     (sym c.in-Some.ensures.2, subst (λ n. Going start c.args.text.now n c.hear.new.book loan' (left c.next.new.self)) number going)
