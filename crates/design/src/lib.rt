@@ -1,5 +1,6 @@
 // The rows of a design table, and the calls that enter and change them, as data.
 #![tactic(auto)]
+
 pub mod calls;
 pub mod couplings;
 pub mod nodes;

@@ -1,5 +1,6 @@
 // A book in whichever state, and calls on it as data.
 #![tactic(auto)]
+
 use states::{Draft, Sealed};
 
 mod apply;

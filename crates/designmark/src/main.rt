@@ -1,5 +1,6 @@
 // clockmark: reads a text of frames from standard input, and prints a line for each line read.
 #![tactic(auto)]
+
 use design::couplings::Coupling;
 use design::nodes::Node;
 use designbook::Book;

@@ -1,5 +1,6 @@
 // A session with a book: lines of a text in, printed lines out.
 #![tactic(auto)]
+
 ghost use Rattle.text.specs.Spelling.{SpelledAt};
 ghost use Rattle.states.specs.Views.{loan_of};
 ghost use Rattle.designsession.specs.Printing.{bytes_for, Admitted, Replied};

@@ -1,5 +1,6 @@
 // Worked examples over the whole library: calls and their answers, states, texts in and out.
 #![tactic(auto)]
+
 #[cfg(test)]
 mod answers;
 #[cfg(test)]

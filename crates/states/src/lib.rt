@@ -1,5 +1,6 @@
 // A book whose state is a type: a draft takes rows, feeds and couplings, a sealed table takes none.
 #![tactic(auto)]
+
 use counts::Counts;
 use refusals::Refusal;
 

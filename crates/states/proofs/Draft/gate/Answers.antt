@@ -16,29 +16,29 @@ asked n loan ks rows b e h = any_other_seen is_node draft n loan ks ∙ ap (λ x
 pub returns-then-counts : goal.returns-then-counts
 returns-then-counts c = search (rules, table)
 
-pub returns-then-lacks-phase : goal.returns-then-lacks-phase
-returns-then-lacks-phase c = search (rules, table)
+pub returns-then-lacks_phase : goal.returns-then-lacks_phase
+returns-then-lacks_phase c = search (rules, table)
 
 pub returns-then-least-greatest : goal.returns-then-least-greatest
 returns-then-least-greatest c = search (rules, table)
 
-pub returns-then-any-above : goal.returns-then-any-above
-returns-then-any-above c = search (rules, table)
+pub returns-then-any_above : goal.returns-then-any_above
+returns-then-any_above c = search (rules, table)
 
-pub returns-in-default : goal.returns-in-default
-returns-in-default c = search (rules, table)
+pub returns-in_default : goal.returns-in_default
+returns-in_default c = search (rules, table)
 
-pub returns-then-any-other : goal.returns-then-any-other
-returns-then-any-other c =
-    let bad = asked c.args.self.now.counts (loan_of c.args.schedule.now c.args.nodes.now c.args.couplings.now) c.args.row.sources.now c.granted.result.now c.any-other.result c.granted.ensures c.any-other.ensures in
+pub returns-then-any_other : goal.returns-then-any_other
+returns-then-any_other c =
+    let bad = asked c.args.self.now.counts (loan_of c.args.schedule.now c.args.nodes.now c.args.couplings.now) c.args.row.sources.now c.granted.result.now c.any_other.result c.granted.ensures c.any_other.ensures in
     search (rules, table)
 
-pub returns-then-is-short : goal.returns-then-is-short
-returns-then-is-short c =
-    let bad = asked c.args.self.now.counts (loan_of c.args.schedule.now c.args.nodes.now c.args.couplings.now) c.args.row.sources.now c.granted.result.now c.any-other.result c.granted.ensures c.any-other.ensures in
+pub returns-then-is_short : goal.returns-then-is_short
+returns-then-is_short c =
+    let bad = asked c.args.self.now.counts (loan_of c.args.schedule.now c.args.nodes.now c.args.couplings.now) c.args.row.sources.now c.granted.result.now c.any_other.result c.granted.ensures c.any_other.ensures in
     search (rules, table)
 
 pub returns : goal.returns
 returns c =
-    let bad = asked c.args.self.now.counts (loan_of c.args.schedule.now c.args.nodes.now c.args.couplings.now) c.args.row.sources.now c.granted.result.now c.any-other.result c.granted.ensures c.any-other.ensures in
+    let bad = asked c.args.self.now.counts (loan_of c.args.schedule.now c.args.nodes.now c.args.couplings.now) c.args.row.sources.now c.granted.result.now c.any_other.result c.granted.ensures c.any_other.ensures in
     search (rules, table)

@@ -7,4 +7,4 @@ use Rattle.design.proofs.nodes.Sources.of.Goals as goal
 pub returns : goal.returns
 returns c =
     let fan : has_fan c.args.list.now ≡ true = grind (arith, nat_tests) in
-    (fan, gathered_copy c.args.list.now c.copy-from-slice.new.self c.copy-from-slice.ensures.after)
+    (fan, gathered_copy c.args.list.now c.copy_from_slice.new.self c.copy_from_slice.ensures.after)
