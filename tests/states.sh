@@ -1,26 +1,27 @@
 #!/usr/bin/env bash
-# Compiles the small programs in tests/states against the libraries in target/rlib. Each NAME.refused.txt does what
+# Checks the small programs in tests/states against the libraries of this repository. Each NAME.refused.txt does what
 # the state of a book forbids, and must be refused with the error that its second line names; its twin
-# NAME.accepted.txt must be accepted.
+# NAME.accepted.txt must be proved.
 set -u -o pipefail
 cd "$(dirname "$0")/.." || exit 1
 
-kit=$(dirname "$(dirname "$(rt doc)")")
+# A repository of the libraries, with what checks of them have kept, and of one program that is another each time.
 work=$(mktemp -d) || exit 1
 trap 'rm -rf "$work"' EXIT
-
-# compile TEXT: what the checker says of the program, and its status
-compile() {
-  mkdir -p "$work/src"
-  cp "$1" "$work/src/lib.rt"
-  local library
-  local words=()
-  for library in refusals schedule design states; do
-    words+=(--extern "$library=target/rlib/$library.rlib")
+libraries='refusals schedule design states'
+mkdir -p "$work/crates/program/src" || exit 1
+{
+  for library in $libraries; do
+    cp -r "crates/$library" "$work/crates/" || exit 1
+    grep "^$library:" crates.txt || exit 1
   done
-  "$kit/bin/rattle" check --crate-name program "$work/src/lib.rt" --extern "std=$kit/rlib/std.rlib" "${words[@]}" \
-    -L dependency=target/rlib -L "dependency=$kit/rlib" \
-    --antt-project "$kit/logic/antt-project.json" --logic-built "$kit/logic-built" > "$work/said" 2>&1
+  echo "program: $libraries"
+} > "$work/crates.txt"
+
+# compile TEXT: what the check says of the program, and its status
+compile() {
+  cp "$1" "$work/crates/program/src/lib.rt"
+  (cd "$work/crates/program" && rt check) > "$work/said" 2>&1
 }
 
 fail() {

@@ -1,4 +1,4 @@
-// clockmark: reads a text of frames from standard input, and prints a line for each line read.
+// designmark: reads a text of frames from standard input, and prints a line for each line read.
 #![tactic(auto)]
 
 use design::couplings::Coupling;
