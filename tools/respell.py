@@ -3,9 +3,12 @@
 
 usage: python3 tools/respell.py      at the top of the repository, after the kit's own scripts, once
 
+The kit's scripts give a name in snake case where a library has the same one; which names these are depends on what else
+stands in the repository, so the table has them too.
+
 A name is a whole word of a specification, a proof or a clause; the text of functions, must-fail edits, strings and
 outputs is left alone, since no name of the table occurs there. A lemma that would have got the name of a definition
-ends in _lem.
+ends in _lem, but not where the word is a step of a proof, which follows a dot.
 """
 
 import os
@@ -19,17 +22,23 @@ All-rebuild AllRebuild
 All-stand AllStand
 addCoupling add_coupling
 addNode add_node
+after-push after_push
 after-stands after_stands
 alike-front alike_front
+alike-of alike_of
+all-append all_append
 all-at all_at
 all-couplings all_couplings
 all-false all_false
 all-nodes all_nodes
 all-stand all_stand
+all-there all_there
 and-swing and_swing
 answerTo answer_to
+answers-push answers_push
 answersTo answers_to
 any-more any_more
+any-none any_none
 any-other-same any_other_same
 any-other-seen any_other_seen
 any-stop any_stop
@@ -58,9 +67,13 @@ blank-book blank_book
 bookTable book_table
 both-within both_within
 by-unless by_unless
+byte-at byte_at
 byte-counts byte_counts
 byte-kind byte_kind
+byte-small byte_small
+byteOf byte_of
 bytes-append bytes_append
+bytes-back bytes_back
 bytes-encode bytes_encode
 bytes-from bytes_from
 bytes-in bytes_in_lem
@@ -72,6 +85,7 @@ bytes-length bytes_length
 bytes-spelled bytes_spelled
 bytesFor bytes_for
 bytesIn bytes_in
+bytesOf bytes_of
 called-grows called_grows
 cleared-copy cleared_copy
 cleared-fields cleared_fields
@@ -82,6 +96,8 @@ clock-cleared clock_cleared
 clockIn clock_in
 clockOf clock_of
 contentOf content_of
+count-at count_at
+countOf count_of
 counted-more counted_more
 countsOf counts_of
 couple-lines couple_lines
@@ -99,12 +115,14 @@ couplings-seen couplings_seen
 couplings-stand couplings_stand
 couplingsFull couplings_full
 cut-back cut_back
+digit-at digit_at
 digit-back digit_back
 digit-counts digit_counts
 digit-is digit_is
 digit-no-feed digit_no_feed
 digitFor digit_for
 digitValue digit_value
+digits-of digits_of_lem
 digitsOf digits_of
 done-whole done_whole
 doneAnswer done_answer
@@ -130,28 +148,38 @@ feedFrames feed_frames
 feeds-listed feeds_listed
 feeds-more feeds_more
 feeds-push feeds_push
+few-bytes few_bytes
+fieldsOf fields_of
 first-lent first_lent
 first-line first_line
+first-of first_of
 first-suc first_suc
 first-suc-set first_suc_set
+first-taken first_taken
 firstThat first_that
 fit-false fit_false
 fixedWidth fixed_width
+formOf form_of
+four-bytes four_bytes
 four-within four_within
+frame-at frame_at
 frame-sized frame_sized
 frameAs frame_as
+frameOf frame_of
 framed-grows framed_grows
 frames-listed frames_listed
 framesFor frames_for
 framesIn frames_in
 framesOf frames_of
 front-is front_is
+front-of front_of
 gate-sound gate_sound
 gate-stands gate_stands
 gateSources gate_sources
 gathered-copy gathered_copy
 getD-first get_or-first
 go-end go_end
+go-on go_on
 go-stop go_stop
 granted-done granted_done
 granted-few granted_few
@@ -169,6 +197,7 @@ heard-grows heard_grows
 held-cleared held_cleared
 hex-heard hex_heard
 hex-spelled hex_spelled
+high-small high_small
 history-all history_all
 inState in_state
 inUse in_use
@@ -183,12 +212,14 @@ isLatch is_latch
 isNode is_node
 isOpen is_open
 isOther is_other
+isOver is_over
 isPair is_pair
 isPaired is_paired
 isShort is_short
 isState is_state
 isUnfed is_unfed
 isVictim is_victim
+isWhole is_whole
 item-at item_at
 itemWidth item_width
 join-back join_back
@@ -196,7 +227,10 @@ joined-push joined_push
 kind-back kind_back
 kind-byte kind_byte
 kindIn kind_in
+kindOf kind_of
 knownRule known_rule
+laid-more laid_more
+laid-none laid_none
 lastField last_field
 latch-fed latch_fed
 latch-sound latch_sound
@@ -208,6 +242,7 @@ length-lent length_lent
 length-line length_line
 length-made length_made
 length-take-short length-take_short
+lent-alike lent_alike
 lentCouplings lent_couplings
 lentIn lent_in
 lentNodes lent_nodes
@@ -216,10 +251,13 @@ lentToo lent_too
 line-length line_length
 line-within line_within
 lineFeed line_feed
+lineFor line_for
+lineOf line_of
 lines-append lines_append
 lines-back lines_back
 lines-within lines_within
 linesFor lines_for
+linesOf lines_of
 listed-append listed_append
 listed-length listed_length
 load-couple load_couple
@@ -228,6 +266,7 @@ load-feed load_feed
 load-feeds load_feeds
 load-node load_node
 load-nodes load_nodes
+load-one load_one
 load-schedule load_schedule
 loadFrames load_frames
 loadFrom load_from
@@ -235,19 +274,24 @@ loanOf loan_of
 long-enough long_enough
 long-true long_true
 longestReply longest_reply
+low-small low_small
 mayReplace may_replace
+met-all met_all
 met-more met_more
 mostCouplings most_couplings
 mostNodes most_nodes
 nearestTo nearest_to
 neverFalls never_falls
 neverFallsFrom never_falls_from
+no-above no_above
 no-frame no_frame
+no-other no_other
 no-others no_others
 noCoupling no_coupling
 noPhase no_phase
 noRoomFor no_room_for
 node-added node_added
+node-lines node_lines
 node-listed node_listed
 node-one node_one
 node-within node_within
@@ -260,16 +304,24 @@ nodes-seen nodes_seen
 nodesFull nodes_full
 none-paired none_paired
 not-coupled not_coupled
+not-full not_full
+not-opened not_opened
 not-over not_over
+not-short not_short
 notTaken not_taken
 number-at number_at_lem
 number-back number_back
+number-past number_past
+number-small number_small
+numberAt number_at
 numberFor number_for
+numberOf number_of
 of-kind of_kind
 ofPhase of_phase
 ofPhases of_phases
 once-grows once_grows
 one-frame one_frame
+one-more one_more
 one-within one_within
 open-blank open_blank
 open-stands open_stands
@@ -301,6 +353,7 @@ phases-more phases_more
 phasesOf phases_of
 places-back places_back
 places-bounds places_bounds
+power-pos power_pos
 push-cases push_cases
 put-at put_at
 put-fits put_fits
@@ -311,23 +364,29 @@ reached-done reached_done
 reached-more reached_more
 reached-none reached_none
 read-and-written read_and_written
+read-back read_back
+read-by read_by
 read-part read_part
 read-within read_within
 rebuilds-so-far rebuilds_so_far
 refusal-same refusal_same
+refused-as refused_as
 refused-done refused_done
 refused-long refused_long
 refused-short refused_short
+rest-of rest_of
 retime-stands retime_stands
 row-fed row_fed
 row-grows row_grows
 row-passed row_passed
 row-retimed row_retimed
 rows-from rows_from
+rows-of rows_of
 rule-byte rule_byte_lem
 ruleByte rule_byte
 ruleIn rule_in
 ruleOf rule_of
+same-bytes same_bytes
 schedule-is schedule_is
 schedule-lines schedule_lines
 schedule-sound schedule_sound
@@ -335,32 +394,43 @@ schedule-within schedule_within
 scheduleFrame schedule_frame
 seal-stands seal_stands
 sealedTable sealed_table
+set-cases set_cases
 short-seen short_seen
 short-true short_true
 sized-by sized_by
+some-same some_same
 some-unlawful some_unlawful
 sources-back sources_back
 sources-gathered sources_gathered
 sources-more sources_more
 sourcesIn sources_in
 sourcesListed sources_listed
+spelled-back spelled_back
 stands-node stands_node
 stands-nodes stands_nodes
 stands-open stands_open
 stands-rebuild stands_rebuild
+start-back start_back
+start-small start_small
 startFits start_fits
 starts-back starts_back
+starts-fit starts_fit
 startsIn starts_in
 state-changed state_changed
 state-seen state_seen
+stateOf state_of
 step-grows step_grows
 step-stands step_stands
+tableOf table_of
 take-clamped take_clamped
 taken-draft taken_draft
 taken-unopened taken_unopened
 takenAs taken_as
 takenIn taken_in
+textOf text_of
 through-book through_book
+too-long too_long
+two-bytes two_bytes
 two-long two_long
 two-within two_within
 undecodedRefusal undecoded_refusal
@@ -372,12 +442,19 @@ unopened-ran unopened_ran
 value-small value_small
 verify-read verify_read
 walk-all walk_all
+walk-more walk_more
 walk-stop walk_stop
+whole-by whole_by
+width-back width_back
+width-small width_small
 widthFits width_fits
 widths-back widths_back
 widths-fit widths_fit
 widthsIn widths_in
 withCouplings with_couplings
+withNodes with_nodes
+written-as written_as
+written-back written_back
 written-text written_text
 written-within written_within
 wrote-more wrote_more
@@ -401,7 +478,14 @@ def main():
         lemmas = {old: new for (end, old), new in LEMMAS.items() if path.endswith(end)}
         with open(path, encoding="utf-8") as f:
             text = f.read()
-        new = WORD.sub(lambda m: lemmas.get(m[0]) or table.get(m[0]) or m[0], text)
+
+        def respelled(match):
+            word = match[0]
+            new = lemmas.get(word) or table.get(word) or word
+            step = match.start() > 0 and text[match.start() - 1] == "."
+            return word if step and new.endswith("_lem") else new
+
+        new = WORD.sub(respelled, text)
         if new != text:
             with open(path, "w", encoding="utf-8") as f:
                 f.write(new)
