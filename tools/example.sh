@@ -7,14 +7,19 @@ program=${2:-clockmark}
 cd "$(dirname "$0")/.."
 
 # The program is proved before it is built; later runs take what is there.
-if [ ! -x "target/bin/$program" ]; then
+binary=crates/$program/out/$program
+if [ ! -x "$binary" ]; then
   echo "proving and building $program: this takes some minutes the first time" >&2
-  rt check "$program" > /dev/null
+  log=$(mktemp)
+  if ! (cd "crates/$program" && rt run) < /dev/null > /dev/null 2> "$log"; then
+    tail -n 20 "$log" >&2
+    exit 1
+  fi
 fi
 
 answers=$(mktemp)
 trap 'rm -f "$answers"' EXIT
-"target/bin/$program" < "$text" > "$answers"
+"$binary" < "$text" > "$answers"
 
 awk '
   BEGIN {

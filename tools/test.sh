@@ -1,5 +1,5 @@
 #!/usr/bin/env bash
-# Passes the tests: the gate over every crate, then the scripts that use the program and the libraries which the gate built.
+# Passes the tests: the gate over every crate, then the scripts that use the programs and the libraries which the gate built.
 # The gate's own line, 'N passed, 0 failed', is printed last, and only if everything passed.
 set -u -o pipefail
 cd "$(dirname "$0")/.." || exit 1
@@ -12,6 +12,15 @@ verdict=$(tail -n 1 "$log")
 case "$verdict" in
   *[0-9]' passed, 0 failed') ;;
   *) exit 1 ;;
+esac
+
+# An edit that no longer fits the text is no failure of the gate, but shows nothing of a contract.
+ok=$(grep '^rt: ok' "$log") || exit 1
+case "$ok" in
+  *', '*[0-9]' bad'*)
+    echo 'must-fail edits are bad: mend them'
+    exit 1
+    ;;
 esac
 
 for script in tests/program.sh tests/designmark.sh tests/states.sh; do

@@ -16,28 +16,28 @@ use schedule::Schedule;
 use states::counts::Counts;
 use states::{Draft, Sealed};
 
-fn node_answer(res: Result<u16, Refusal>) -> Result<Answer, Refusal>
-    ensures { result ≡ node_answer res }
+fn node_answer(answer: Result<u16, Refusal>) -> Result<Answer, Refusal>
+    ensures { result ≡ node_answer answer }
 {
-    match res {
+    match answer {
         Ok(number) => Ok(Answer::Node(number)),
         Err(refusal) => Err(refusal),
     }
 }
 
-fn coupling_answer(res: Result<u16, Refusal>) -> Result<Answer, Refusal>
-    ensures { result ≡ coupling_answer res }
+fn coupling_answer(answer: Result<u16, Refusal>) -> Result<Answer, Refusal>
+    ensures { result ≡ coupling_answer answer }
 {
-    match res {
+    match answer {
         Ok(number) => Ok(Answer::Coupling(number)),
         Err(refusal) => Err(refusal),
     }
 }
 
-fn done_answer(res: Result<(), Refusal>) -> Result<Answer, Refusal>
-    ensures { result ≡ done_answer res }
+fn done_answer(answer: Result<(), Refusal>) -> Result<Answer, Refusal>
+    ensures { result ≡ done_answer answer }
 {
-    match res {
+    match answer {
         Ok(()) => Ok(Answer::Done),
         Err(refusal) => Err(refusal),
     }

@@ -8,6 +8,6 @@ mod calls;
 #[cfg(test)]
 mod clocks;
 #[cfg(test)]
-mod states;
+mod sealing;
 #[cfg(test)]
 mod texts;
