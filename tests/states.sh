@@ -18,8 +18,8 @@ mkdir -p "$work/crates/program/src" || exit 1
   echo "program: $libraries"
 } > "$work/crates.txt"
 
-# compile TEXT: what the check says of the program, and its status
-compile() {
+# judge TEXT: what the check says of the program, and its status
+judge() {
   cp "$1" "$work/crates/program/src/lib.rt"
   (cd "$work/crates/program" && rt check) > "$work/said" 2>&1
 }
@@ -33,13 +33,13 @@ fail() {
 for refused in tests/states/*.refused.txt; do
   name=$(basename "$refused" .refused.txt)
   error=$(sed -n '2s|^// ||p' "$refused")
-  if compile "$refused"; then
+  if judge "$refused"; then
     fail "$refused is accepted"
   fi
   if [ -z "$error" ] || ! grep -qF "$error" "$work/said"; then
     fail "$refused is not refused with '$error'"
   fi
-  if ! compile "tests/states/$name.accepted.txt" || ! grep -q '^logic=proved ' "$work/said"; then
+  if ! judge "tests/states/$name.accepted.txt" || ! grep -q '^logic=proved ' "$work/said"; then
     fail "tests/states/$name.accepted.txt is not accepted"
   fi
   echo "$name: refused, and its twin accepted: ok"

@@ -6,19 +6,18 @@ text=$(realpath "${1:-$(dirname "$0")/../examples/schedules.txt}")
 program=${2:-clockmark}
 cd "$(dirname "$0")/.."
 
+answers=$(mktemp)
+trap 'rm -f "$answers"' EXIT
+
 # The program is proved before it is built; later runs take what is there.
 binary=crates/$program/out/$program
 if [ ! -x "$binary" ]; then
   echo "proving and building $program: this takes some minutes the first time" >&2
-  log=$(mktemp)
-  if ! (cd "crates/$program" && rt run) < /dev/null > /dev/null 2> "$log"; then
-    tail -n 20 "$log" >&2
+  if ! (cd "crates/$program" && rt run) < /dev/null > /dev/null 2> "$answers"; then
+    tail -n 20 "$answers" >&2
     exit 1
   fi
 fi
-
-answers=$(mktemp)
-trap 'rm -f "$answers"' EXIT
 "$binary" < "$text" > "$answers"
 
 awk '

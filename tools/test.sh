@@ -1,5 +1,6 @@
 #!/usr/bin/env bash
-# Passes the tests: the gate over every crate, then the scripts that use the programs and the libraries which the gate built.
+# Passes the tests: the gate over every crate, then the scripts that use the programs and the libraries which the gate
+# built.
 # The gate's own line, 'N passed, 0 failed', is printed last, and only if everything passed.
 set -u -o pipefail
 cd "$(dirname "$0")/.." || exit 1

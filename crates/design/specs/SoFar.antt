@@ -1,5 +1,5 @@
 -- What every table so far satisfies: each table that a list of calls makes of a newly opened one.
-use Rattle.std.specs.Prelude.{◌≡◌, ℕ, ◌<◌, ◌≤◌, true, false, ◌⊎◌, List, length, get_or, Some, None, Option, ◌≢◌, slice_index, slice_index_or}
+use Rattle.std.specs.Prelude.{◌≡◌, ℕ, ◌<◌, ◌≤◌, true, false, ◌⊎◌, List, length, Some, None, Option, ◌≢◌, slice_index, slice_index_or}
 use Rattle.schedule.specs.Clock.{Clock, lawful, cleared, has_phase}
 use Rattle.design.specs.declared.nodes.Node.{Node}
 use Rattle.design.specs.declared.nodes.Node.TheVariants.{Free, Input, Gate, Latch}
@@ -45,7 +45,7 @@ CouplingStands nodes k =
 
 -- no victim has an aggressor twice
 abbrev pub NoPairTwice : List Coupling → Type 0
-NoPairTwice ks = (i j : ℕ) → i < j → j < length ks → is_pair (get_or ks i no_coupling).victim (get_or ks i no_coupling).aggressor (slice_index_or ks j no_coupling) ≡ false
+NoPairTwice ks = (i j : ℕ) → i < j → j < length ks → is_pair (slice_index_or ks i no_coupling).victim (slice_index_or ks i no_coupling).aggressor (slice_index_or ks j no_coupling) ≡ false
 
 -- the assisting amounts of no node exceed its least delay
 abbrev pub NoneOver : List Node → List Coupling → Type 0
