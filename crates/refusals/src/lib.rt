@@ -11,7 +11,7 @@ mod tests;
 // Why a line or a call is refused; each case is one test.
 #[derive(Clone, Copy, PartialEq, Eq, Debug)]
 pub enum Refusal {
-    Full,
+    Full = 1,
     Phase,
     Span,
     Figure,
@@ -43,32 +43,20 @@ pub struct Fault {
     pub refusal: Refusal,
 }
 
-impl Refusal {
-    pub fn number(self) -> u8
-        ensures { result ≡ number_of self }
-    {
-        match self {
-            Refusal::Full => 1,
-            Refusal::Phase => 2,
-            Refusal::Span => 3,
-            Refusal::Figure => 4,
-            Refusal::Fan => 5,
-            Refusal::Node => 6,
-            Refusal::Pair => 7,
-            Refusal::Assist => 8,
-            Refusal::Clock => 9,
-            Refusal::Unfed => 10,
-            Refusal::Short => 11,
-            Refusal::Digits => 12,
-            Refusal::Frame => 13,
-            Refusal::Order => 14,
-        }
-    }
+// The number of a refusal.
+impl From<Refusal> for u8 {
+    ghost from_gives = { λ refusal number. number ≡ number_of refusal };
 
-    pub fn layer(self) -> Layer
-        ensures { result ≡ layer_of self }
-    {
-        match self {
+    fn from(refusal: Refusal) -> u8 {
+        refusal as u8
+    }
+}
+
+impl From<Refusal> for Layer {
+    ghost from_gives = { λ refusal layer. layer ≡ layer_of refusal };
+
+    fn from(refusal: Refusal) -> Layer {
+        match refusal {
             Refusal::Digits => Layer::Digits,
             Refusal::Frame => Layer::Frame,
             _ => Layer::Book,
@@ -83,7 +71,7 @@ impl Fault {
     {
         Fault {
             line,
-            layer: refusal.layer(),
+            layer: refusal.into(),
             refusal,
         }
     }

@@ -20,8 +20,8 @@ fn numbers_and_layers(rt: HostRuntime) {
         (Refusal::Order, 14, Layer::Book),
     ];
     for (refusal, number, layer) in cases {
-        assert_eq!(rt; refusal.number(), number);
-        assert_eq!(rt; refusal.layer(), layer);
+        assert_eq!(rt; u8::from(refusal), number);
+        assert_eq!(rt; Layer::from(refusal), layer);
     }
     let fault = Fault {
         line: 3,
