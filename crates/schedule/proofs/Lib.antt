@@ -1,3 +1,4 @@
+-- The lemmas of this crate.
 mod Lists
 pub mod Lawful
 pub mod Cleared

@@ -1,5 +1,6 @@
 -- A clock of one to sixteen phases: when it is lawful, and how far its phases lie apart.
 use Rattle.std.specs.Prelude.{ℕ, ◌-◌, Bool, true, cond, ◌&&◌, List, [], ◌∷◌, ◌++◌, length, take, replicate, ℤ, pos, ◌+ℤ◌, ◌-ℤ◌, ◌*ℤ◌, neg_ℤ, int_lt, nat_le, nat_lt, slice_index}
+use Rattle.std.specs.List.{list_all}
 
 -- The starts and the open widths stand in the order of the phases; a place past the last phase means nothing.
 pub record Clock : Type 0 where
@@ -20,11 +21,6 @@ greatest_phases = 16
 -- x is no less than low and no more than high
 abbrev pub between : ℕ → ℕ → ℕ → Bool
 between low x high = nat_le low x && nat_le x high
-
--- each number of a list meets the test p
-abbrev pub every : (ℕ → Bool) → List ℕ → Bool
-every p [] = true
-every p (x ∷ xs) = p x && every p xs
 
 -- no number of a list is less than the one before it, nor the first less than `low`
 abbrev pub never_falls_from : ℕ → List ℕ → Bool
@@ -55,9 +51,9 @@ lawful c =
     && between 1 c.phases greatest_phases
     && nat_le c.phases (length c.starts)
     && nat_le c.phases (length c.widths)
-    && every (start_fits c) (in_use c c.starts)
+    && list_all (start_fits c) (in_use c c.starts)
     && never_falls (in_use c c.starts)
-    && every (width_fits c) (in_use c c.widths)
+    && list_all (width_fits c) (in_use c c.widths)
 
 -- phases count from 1
 abbrev pub has_phase : Clock → ℕ → Bool

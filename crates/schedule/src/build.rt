@@ -1,7 +1,8 @@
 // Schedules made from figures: which figures are lawful, a new schedule, and other figures for one that stands.
-ghost use Rattle.std.specs.Prelude.{◌≡◌, ◌≤◌, nat_lt};
-ghost use Rattle.schedule.specs.Clock.{between, every, never_falls, cleared_places, lawful};
-ghost use Rattle.schedule.specs.Made.{drawn, shown, Made, Retimed, blank};
+ghost use Rattle.std.specs.Prelude.{◌≡◌, ◌≤◌, true, nat_lt};
+ghost use Rattle.schedule.specs.Clock.{between, never_falls, cleared, cleared_places, lawful};
+ghost use Rattle.std.specs.List.{list_all};
+ghost use Rattle.schedule.specs.Made.{drawn, Made, Retimed, blank};
 
 use super::Schedule;
 use super::figures::Figures;
@@ -12,38 +13,21 @@ const GREATEST_PERIOD: u32 = 16_777_215;
 const GREATEST_PHASES: u8 = 16;
 
 fn all_below(starts: &[u32], period: u32) -> bool
-    ensures { result ≡ every (λ e. nat_lt e period) starts.now }
+    ensures { result ≡ list_all (λ e. nat_lt e period) starts.now }
 {
-    for start in starts {
-        if *start >= period {
-            return false;
-        }
-    }
-    true
+    starts.iter().all(|start| *start < period)
 }
 
 fn never_fall(starts: &[u32]) -> bool
     ensures { result ≡ never_falls starts.now }
 {
-    let mut last = 0;
-    for start in starts {
-        if *start < last {
-            return false;
-        }
-        last = *start;
-    }
-    true
+    starts.is_sorted()
 }
 
 fn all_fit(widths: &[u32], period: u32) -> bool
-    ensures { result ≡ every (λ w. between 1 w period) widths.now }
+    ensures { result ≡ list_all (λ w. between 1 w period) widths.now }
 {
-    for width in widths {
-        if !(1..=period).contains(width) {
-            return false;
-        }
-    }
-    true
+    widths.iter().all(|width| (1..=period).contains(width))
 }
 
 fn is_lawful(figures: &Figures) -> bool
@@ -90,22 +74,9 @@ impl Schedule {
         })
     }
 
-    // The figures that the schedule is made of, with zeros past its last phase.
-    pub fn figures(&self) -> Figures
-        ensures { drawn result ≡ shown self.now }
-    {
-        Figures {
-            period: self.period,
-            proximity: self.proximity,
-            count: self.count,
-            starts: self.starts,
-            widths: self.widths,
-        }
-    }
-
     // A lawful schedule of one phase, for a record that is to hold another.
     pub fn blank() -> Schedule
-        ensures { shown result ≡ blank }
+        ensures { result ≡ blank }
     {
         let mut widths = [0; 16];
         widths[0] = 1;
@@ -122,11 +93,25 @@ impl Schedule {
     pub fn retime(&mut self, figures: &Figures) -> Result<(), Refusal>
         ensures { Retimed self.old figures.now self.new result }
     {
-        if figures.count == self.count {
-            *self = Schedule::new(figures)?;
-            Ok(())
-        } else {
-            Err(Refusal::Clock)
+        if figures.count != self.count {
+            return Err(Refusal::Clock);
+        }
+        *self = Schedule::new(figures)?;
+        Ok(())
+    }
+}
+
+// The figures that a schedule is made of, with zeros past its last phase.
+impl From<&Schedule> for Figures {
+    ghost from_gives = { λ schedule figures. (drawn figures ≡ schedule.now) × (lawful schedule.now ≡ true) × (cleared schedule.now ≡ schedule.now) };
+
+    fn from(schedule: &Schedule) -> Figures {
+        Figures {
+            period: schedule.period,
+            proximity: schedule.proximity,
+            count: schedule.count,
+            starts: schedule.starts,
+            widths: schedule.widths,
         }
     }
 }

@@ -1,7 +1,7 @@
 // What a schedule tells: its figures, the shifts between its phases, and their opening edges.
 ghost use Rattle.std.specs.Prelude.{◌≡◌, ◌-◌, ◌<◌, true, false, pos, neg_ℤ, ◌≤ℤ◌, Ok, Err};
-ghost use Rattle.schedule.specs.Clock.{lawful, forward, nearest, nearest_to, opening, has_phase};
-ghost use Rattle.schedule.specs.Made.{shown, of_phase, of_phases};
+ghost use Rattle.schedule.specs.Clock.{lawful, cleared, forward, nearest, nearest_to, opening, has_phase};
+ghost use Rattle.schedule.specs.Made.{of_phase, of_phases};
 
 use super::Schedule;
 use refusals::Refusal;
@@ -23,27 +23,28 @@ fn nearest_to(period: u32, gap: i64) -> i64
 
 impl Schedule {
     pub fn period(&self) -> u32
-        ensures value { result ≡ (shown self.now).period }
-        ensures law { lawful (shown self.now) ≡ true }
+        ensures value { result ≡ self.now.period }
+        ensures law { lawful self.now ≡ true }
+        ensures clear { cleared self.now ≡ self.now }
     {
         self.period
     }
 
     pub fn proximity(&self) -> u32
-        ensures { result ≡ (shown self.now).proximity }
+        ensures { result ≡ self.now.proximity }
     {
         self.proximity
     }
 
     pub fn phases(&self) -> u8
-        ensures { result ≡ (shown self.now).phases }
+        ensures { result ≡ self.now.phases }
     {
         self.count
     }
 
     // The place of a phase, counted from 0.
     fn place(&self, phase: u8) -> Result<usize, Refusal>
-        ensures { elim result [ Ok k ↦ (has_phase (shown self.now) phase ≡ true) × (k ≡ phase - 1) × (k < 16) | Err e ↦ (has_phase (shown self.now) phase ≡ false) × (e ≡ Refusal.Phase) ] }
+        ensures { elim result [ Ok k ↦ (has_phase self.now phase ≡ true) × (k ≡ phase - 1) × (k < 16) | Err e ↦ (has_phase self.now phase ≡ false) × (e ≡ Refusal.Phase) ] }
     {
         if !(1..=self.count).contains(&phase) {
             return Err(Refusal::Phase);
@@ -52,7 +53,7 @@ impl Schedule {
     }
 
     pub fn forward_shift(&self, from: u8, to: u8) -> Result<i64, Refusal>
-        ensures { result ≡ of_phases (shown self.now) from to (forward (shown self.now) from to) }
+        ensures { result ≡ of_phases self.now from to (forward self.now from to) }
     {
         let here = i64::from(self.starts[self.place(from)?]);
         let there = i64::from(self.starts[self.place(to)?]);
@@ -63,7 +64,7 @@ impl Schedule {
     }
 
     pub fn nearest_shift(&self, from: u8, to: u8) -> Result<i64, Refusal>
-        ensures { result ≡ of_phases (shown self.now) from to (nearest (shown self.now) from to) }
+        ensures { result ≡ of_phases self.now from to (nearest self.now from to) }
     {
         let here = i64::from(self.starts[self.place(from)?]);
         let there = i64::from(self.starts[self.place(to)?]);
@@ -71,7 +72,7 @@ impl Schedule {
     }
 
     pub fn opening_edge(&self, phase: u8) -> Result<i64, Refusal>
-        ensures { result ≡ of_phase (shown self.now) phase (opening (shown self.now) phase) }
+        ensures { result ≡ of_phase self.now phase (opening self.now phase) }
     {
         let width = i64::from(self.widths[self.place(phase)?]);
         Ok(i64::from(self.period) - width)
