@@ -1,21 +1,13 @@
--- A buffer that is written from a place on, byte after byte.
-use Rattle.std.proofs.Common.{◌≡◌, ℕ, ◌+◌, ◌<◌, List, [], ◌∷◌, ◌++◌, length, get_or, take, drop, set, sym, ap, ◌∙◌, arith}
-use Rattle.std.proofs.lemmas.List.{append_assoc, length-append, length-take-le, set_at, drop_more, take-append-drop}
+-- A buffer that is written from its first place on.
+use Rattle.std.proofs.Common.{◌≡◌, ℕ, ◌+◌, ◌<◌, List, [], ◌∷◌, ◌++◌, length, get_or, drop, set}
+use Rattle.std.proofs.lemmas.List.{append_assoc, set_at, drop_more, take_at, drop_at, drop-drop}
+use borrow.Rule.Slice.PartMut.{put_mid}
 
 module _ {X : Type 0} where
-  -- written nothing yet
-  pub laid_none : (old : List X) (place end : ℕ) → end ≡ place → old ≡ take place old ++ ([] ++ drop end old)
-  laid_none old place end e = sym (take-append-drop place old) ∙ ap (λ n. take place old ++ drop n old) (sym e)
-
   -- one more behind those that are written
-  pub laid_more : (old xs now : List X) (place end next : ℕ) (v : X) → now ≡ take place old ++ (xs ++ drop end old) → place + length xs ≡ end → end < length old → next ≡ end + 1
-      → set now end v ≡ take place old ++ ((xs ++ v ∷ []) ++ drop next old)
-  laid_more old xs now place end next v is at h one =
-      let front = take place old in
-      let rest = drop (end + 1) old in
-      let split = drop_more old end v h in
-      let wide : length (front ++ xs) ≡ end = omega (arith, length-append front xs, length-take-le place old (omega arith)) in
-      ap (λ l. set l end v) (is ∙ (ap (λ l. front ++ (xs ++ l)) split ∙ sym (append_assoc front xs (get_or old end v ∷ rest))))
-      ∙ (set_at (front ++ xs) (get_or old end v) rest v end wide
-      ∙ (append_assoc front xs (v ∷ rest)
-      ∙ (ap (λ l. front ++ l) (sym (append_assoc xs (v ∷ []) rest)) ∙ ap (λ n. front ++ ((xs ++ v ∷ []) ++ drop n old)) (sym one))))
+  pub one_more : (xs old : List X) (n : ℕ) (v : X) → length xs ≡ n → n < length old → set (xs ++ drop n old) n v ≡ (xs ++ v ∷ []) ++ drop (n + 1) old
+  one_more xs old n v e h = rw (drop_more old n v h, append_assoc) (set_at xs (get_or old n v) (drop (n + 1) old) v n e)
+
+  -- some more behind those that are written
+  pub some_more : (xs ys old now : List X) (n m next : ℕ) → now ≡ xs ++ drop n old → length xs ≡ n → next ≡ n + m → put_mid n m now ys ≡ (xs ++ ys) ++ drop next old
+  some_more xs ys old now n m next is e up = rw (is, take_at xs (drop n old) n e, drop_at xs (drop n old) n e, drop-drop m n old, append_assoc, up)

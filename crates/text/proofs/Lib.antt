@@ -1,5 +1,5 @@
+-- The lemmas of this crate.
 pub mod Hex
-pub mod Overlays
 pub mod Texts
 pub mod Buffers
 pub mod Spelled

@@ -1,32 +1,36 @@
 -- The first line of a text.
-use Rattle.std.proofs.Common.{◌≡◌, ℕ, suc, ◌+◌, ◌-◌, ◌<◌, ◌≤◌, true, false, cond, eqb, ◌⊎◌, List, [], ◌∷◌, length, get_or, take, drop, sym, refl, ap, ◌∙◌, inl, inr, arith}
-use Rattle.std.proofs.lemmas.List.{at_drop_more, drop-drop, drop_all, length-drop}
-use Rattle.text.specs.Lines.{line_feed, lines_of, before, front}
+use Rattle.std.proofs.Common.{◌≡◌, ℕ, suc, ◌+◌, ◌-◌, ◌<◌, ◌≤◌, min, cond, not, eqb, List, [], ◌∷◌, length, take, drop, sym, refl, ap, ◌∙◌, add-one, arith}
+use Rattle.std.specs.Prelude.{◌==◌, position, unwrap_or}
+use Rattle.std.specs.List.{position_or_len}
+use Rattle.std.proofs.lemmas.List.{drop-drop, length-drop, drop_min, take_all}
+use Rattle.std.proofs.lemmas.List.Sums.{prefix_len-le-length}
+use Rattle.std.proofs.lemmas.List.Recursion.{is_position_or_len}
+use Rattle.std.proofs.lemmas.Bool.Decides.{nat_tests}
+use Rattle.text.specs.Lines.{line_feed, lines_of}
 
-pub front-more : (xs : List ℕ) (i : ℕ) → i < length xs → front (drop i xs) ≡ cond (eqb (get_or xs i 0) line_feed) 0 (suc (front (drop (i + 1) xs)))
-front-more xs i h = at_drop_more front xs i 0 h
-
--- a character that is no line feed belongs to the first line of what follows
-joined : (c : ℕ) (cs : List ℕ) → (0 < length cs → lines_of cs ≡ take (front cs) cs ∷ lines_of (drop (suc (front cs)) cs)) → before c (lines_of cs) ≡ (c ∷ take (front cs) cs) ∷ lines_of (drop (suc (front cs)) cs)
-joined c [] first = refl
-joined c (d ∷ ds) first = ap (before c) (first (omega arith))
+-- how many characters stand before the first line feed
+abbrev front : List ℕ → ℕ
+front [] = 0
+front (c ∷ cs) = cond (eqb c line_feed) 0 (suc (front cs))
 
 -- the first line is what stands before the first line feed, and the others are those of the rest
-first_suc : (xs : List ℕ) → 0 < length xs → lines_of xs ≡ take (front xs) xs ∷ lines_of (drop (suc (front xs)) xs)
-first_suc [] h = absurd (omega arith)
-first_suc (c ∷ cs) h =
-    elim (eqb c line_feed)
-    as (λ b. cond b ([] ∷ lines_of cs) (before c (lines_of cs)) ≡ take (cond b 0 (suc (front cs))) (c ∷ cs) ∷ lines_of (drop (suc (cond b 0 (suc (front cs)))) (c ∷ cs)))
-    [ true ↦ refl | false ↦ joined c cs (first_suc cs) ]
+first_line : (xs : List ℕ) → 0 < length xs → lines_of xs ≡ take (front xs) xs ∷ lines_of (drop (suc (front xs)) xs)
+first_line [] h = absurd (omega arith)
+first_line (c ∷ []) h = grind arith
+first_line (c ∷ (d ∷ ds)) h = let rest = first_line (d ∷ ds) (omega arith) in grind arith
 
--- the same from a place of a text on: the line ends at `end`, and the next one begins at `next`
-pub first_line : (text : List ℕ) (start end next : ℕ) → start < length text → end ≡ start + front (drop start text) → (next ≡ end + 1) ⊎ ((next ≡ end) × (length text ≤ end)) → lines_of (drop start text) ≡ take (end - start) (drop start text) ∷ lines_of (drop next text)
-first_line text start end next h e n =
-    let width : front (drop start text) ≡ end - start = omega arith in
-    let first = first_suc (drop start text) (simp length-drop (omega arith)) in
-    let rest : drop (suc (end - start)) (drop start text) ≡ drop next text = drop-drop (suc (end - start)) start text ∙ same n in
-    first ∙ (ap (λ k. take k (drop start text) ∷ lines_of (drop (suc k) (drop start text))) width ∙ ap (λ xs. take (end - start) (drop start text) ∷ lines_of xs) rest)
-  where
-    same : (next ≡ end + 1) ⊎ ((next ≡ end) × (length text ≤ end)) → drop (start + suc (end - start)) text ≡ drop next text
-    same (inl p) = ap (λ k. drop k text) (omega arith)
-    same (inr p) = drop_all (start + suc (end - start)) text (omega arith) ∙ sym (drop_all next text (omega arith))
+-- the place of the first line feed, or else the length
+front_found : (xs : List ℕ) → unwrap_or (position (λ c. c == line_feed) xs) (length xs) ≡ front xs
+front_found xs =
+    let is : front xs ≡ position_or_len (λ c. c == line_feed) xs = is_position_or_len front (λ c. c == line_feed) refl (λ x l. grind arith) xs in
+    let within : position_or_len (λ c. c == line_feed) xs ≤ length xs = prefix_len-le-length (λ c. not (c == line_feed)) xs in
+    grind (arith, nat_tests)
+
+-- the next line ends at the first line feed that is left, or where the text does, and the one after it begins behind
+pub next_line : (text : List ℕ) (start : ℕ) → let rest = take (length text - start) (drop start text) in let end = unwrap_or (position (λ c. c == line_feed) rest) (length rest) in 0 < length rest → lines_of (drop start text) ≡ take end rest ∷ lines_of (drop (start + min (end + 1) (length rest)) text)
+next_line text start some =
+    let rest = take (length text - start) (drop start text) in
+    let whole : rest ≡ drop start text = take_all (length text - start) (drop start text) (omega (arith, length-drop start text)) in
+    let n = suc (front rest) in
+    let behind : drop n rest ≡ drop (start + min n (length rest)) text = sym (drop_min n rest) ∙ ap (drop (min n (length rest))) whole ∙ drop-drop (min n (length rest)) start text in
+    rw (front_found rest, add-one) (ap lines_of (sym whole) ∙ first_line rest some ∙ ap (λ l. take (front rest) rest ∷ lines_of l) behind)

@@ -1,5 +1,6 @@
 -- Hexadecimal digits: 0 to 9 and A to F in ASCII, two to a byte, the high one first.
 use Rattle.std.specs.Prelude.{◌≡◌, ℕ, ◌+◌, ◌-◌, ◌*◌, ◌/◌, ◌%◌, ◌<◌, Bool, true, false, cond, not, ◌&&◌, ◌||◌, List, [], ◌∷◌, ◌++◌, length, drop, Ok, Err, Result, ◌==◌, nat_le, nat_lt}
+use Rattle.std.specs.List.{list_all}
 use Rattle.refusals.specs.declared.Refusal.{Refusal}
 use Rattle.refusals.specs.declared.Refusal.TheVariants.{Digits as DigitsRefusal, Frame as FrameRefusal}
 use Rattle.text.specs.declared.digits.Undecoded.{Undecoded}
@@ -14,8 +15,7 @@ abbrev pub digit_value : ℕ → ℕ
 digit_value c = cond (nat_le c 57) (c - 48) (c - 55)
 
 abbrev pub every_digit : List ℕ → Bool
-every_digit [] = true
-every_digit (c ∷ cs) = is_digit c && every_digit cs
+every_digit cs = list_all is_digit cs
 
 -- a line that passes the test of digits: not empty, a whole number of bytes, and nothing but digits
 abbrev pub is_hex : List ℕ → Bool

@@ -1,3 +1,5 @@
+-- The definitions of this crate, in reading order.
 pub mod Lines
 pub mod Digits
 pub mod Spelling
+pub mod Admission

@@ -1,5 +1,5 @@
 -- The lines of a text, and what the reader hands out.
-use Rattle.std.specs.Prelude.{◌≡◌, ℕ, suc, ◌+◌, cond, List, [], ◌∷◌, drop, Some, None, Option, ◌==◌}
+use Rattle.std.specs.Prelude.{◌≡◌, ℕ, ◌+◌, cond, List, [], ◌∷◌, drop, Some, None, Option, ◌==◌}
 use Rattle.text.specs.declared.lines.Lines.{Lines}
 use Rattle.text.specs.declared.lines.Line.{Line}
 
@@ -15,11 +15,6 @@ before c (l ∷ ls) = (c ∷ l) ∷ ls
 abbrev pub lines_of : List ℕ → List (List ℕ)
 lines_of [] = []
 lines_of (c ∷ cs) = cond (c == line_feed) ([] ∷ lines_of cs) (before c (lines_of cs))
-
--- how many characters stand before the first line feed
-abbrev pub front : List ℕ → ℕ
-front [] = 0
-front (c ∷ cs) = cond (c == line_feed) 0 (suc (front cs))
 
 -- the part of its text that a reader has not handed out
 abbrev pub left : Lines → List ℕ

@@ -30,10 +30,7 @@ impl From<Undecoded> for Refusal {
 fn is_digit(character: u8) -> bool
     ensures { result ≡ is_digit character }
 {
-    match character {
-        b'0'..=b'9' | b'A'..=b'F' => true,
-        _ => false,
-    }
+    matches!(character, b'0'..=b'9' | b'A'..=b'F')
 }
 
 fn digit_value(digit: u8) -> u8
@@ -50,29 +47,26 @@ fn digit_value(digit: u8) -> u8
 fn all_digits(line: &[u8]) -> bool
     ensures { result ≡ every_digit line.now }
 {
-    for character in line {
-        if !is_digit(*character) {
-            return false;
-        }
-    }
-    true
+    line.iter().all(|character| is_digit(*character))
 }
 
-// Reads a line's digits into the first places of `room`, and answers how many bytes they are.
+// Reads a line's digits into the first places of `room`, and answers how many bytes they are: of a part that is lent
+// out, what the room then holds could not be said.
 pub fn decode(line: &[u8], room: &mut [u8; LONGEST]) -> Result<usize, Undecoded>
     ensures { Decoded line.now room.old room.new result }
 {
-    if line.is_empty() || line.len() % 2 != 0 || !all_digits(line) {
+    let (pairs, half) = line.as_chunks::<2>();
+    if line.is_empty() || !half.is_empty() || !all_digits(line) {
         return Err(Undecoded::NotDigits);
     }
-    let count = line.len() / 2;
-    if count > LONGEST {
+    if pairs.len() > LONGEST {
         return Err(Undecoded::TooLong);
     }
-    for k in 0..count {
-        room[k] = digit_value(line[2 * k]) * 16 + digit_value(line[2 * k + 1]);
+    // By index: of places that are lent for writing only their number is known afterwards.
+    for (k, [high, low]) in pairs.iter().enumerate() {
+        room[k] = digit_value(*high) * 16 + digit_value(*low);
     }
-    Ok(count)
+    Ok(pairs.len())
 }
 
 fn digit(figure: u8) -> u8

@@ -6,10 +6,9 @@ use refusals::Refusal;
 
 // Whether a text has a line of this number and these bytes next.
 fn next_is(lines: &mut Lines<'_>, number: usize, bytes: &[u8]) -> bool {
-    match lines.next() {
-        Some(line) => line.number == number && line.bytes == bytes,
-        None => false,
-    }
+    lines
+        .next()
+        .is_some_and(|line| line.number == number && line.bytes == bytes)
 }
 
 #[test]

@@ -1,3 +1,4 @@
+-- What the loops of `decode` keep.
 use Rattle.std.proofs.Common.{◌≡◌, ◌++◌, take, drop}
 use Rattle.text.specs.Digits.{bytes_of}
 use Rattle.text.proofs.digits.decode.Given as goal

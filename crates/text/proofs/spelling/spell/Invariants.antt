@@ -1,6 +1,7 @@
-use Rattle.std.proofs.Common.{◌≡◌, ◌+◌, ◌*◌, ◌++◌, take, drop}
+-- What the loops of `spell` keep.
+use Rattle.std.proofs.Common.{◌≡◌, ◌*◌, ◌++◌, take, drop}
 use Rattle.text.specs.Digits.{spelled}
 use Rattle.text.proofs.spelling.spell.Given as goal
 
 abbrev pub invariant-loop-k : goal.invariant-loop-k
-invariant-loop-k l = l.out ≡ take l.place l.initial.out ++ (spelled (take l.k l.bytes) ++ drop (l.place + 2 * l.k) l.initial.out)
+invariant-loop-k l = l.out ≡ spelled (take l.k l.bytes) ++ drop (2 * l.k) l.initial.out
