@@ -6,7 +6,7 @@ use Rattle.frames.specs.declared.Frame.{Frame}
 use Rattle.frames.specs.declared.Frame.TheVariants.{Schedule, Input, Gate, Latch, Feed, Couple, Verify, Seal, Reopen}
 use Rattle.frames.specs.declared.kinds.Kind.{Kind}
 use Rattle.frames.specs.declared.kinds.Kind.TheVariants.{Schedule as ScheduleKind, Input as InputKind, Gate as GateKind, Latch as LatchKind, Feed as FeedKind, Couple as CoupleKind, Verify as VerifyKind, Seal as SealKind, Reopen as ReopenKind}
-use Rattle.frames.specs.declared.read.NotAFrame.{NotAFrame}
+use Rattle.frames.specs.declared.NotAFrame.{NotAFrame}
 use Rattle.frames.specs.Rules.{rule_byte}
 use Rattle.frames.specs.Frames.{Content, frame_as, frame_of, is_whole, encode}
 

@@ -1,5 +1,7 @@
 -- The kinds of frame: first byte, fields in order with their widths in bytes, and what a kind lists.
-use Rattle.std.specs.Prelude.{ℕ, ◌+◌, cond, List, [], ◌∷◌, map, Some, None, Option, ◌==◌}
+use Rattle.std.specs.Prelude.{ℕ, ◌+◌, List, [], ◌∷◌, map, Option, Result, ok_or, option_map, ◌==◌}
+use Rattle.std.specs.List.{find}
+use Rattle.frames.specs.declared.NotAFrame.{NotAFrame}
 use Rattle.frames.specs.declared.kinds.Kind.{Kind}
 use Rattle.frames.specs.declared.kinds.Kind.TheVariants.{Schedule, Input, Gate, Latch, Feed, Couple, Verify, Seal, Reopen}
 use Rattle.frames.specs.declared.kinds.Form.{Form}
@@ -58,9 +60,12 @@ forms = map form_of (Schedule ∷ Input ∷ Gate ∷ Latch ∷ Feed ∷ Couple �
 
 -- the kind of the first form that begins with a byte
 abbrev pub kind_in : List Form → ℕ → Option Kind
-kind_in [] b = None
-kind_in (f ∷ fs) b = cond (f.byte == b) (Some f.kind) (kind_in fs b)
+kind_in fs b = option_map (λ f. f.kind) (find (λ f. f.byte == b) fs)
 
 -- the kind that a byte stands for, if any
 abbrev pub kind_of : ℕ → Option Kind
 kind_of b = kind_in forms b
+
+-- a byte read as a kind
+abbrev pub kind_read : ℕ → Result Kind NotAFrame
+kind_read b = ok_or (kind_of b) (record {})

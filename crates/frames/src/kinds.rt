@@ -1,6 +1,8 @@
 // The kinds of frame, each with its first byte and how long its frames are.
 ghost use Rattle.std.specs.Prelude.{◌≡◌};
-ghost use Rattle.frames.specs.Kinds.{form_of, kind_in, kind_of};
+ghost use Rattle.frames.specs.Kinds.{form_of, kind_in, kind_read};
+
+use super::NotAFrame;
 
 #[derive(Clone, Copy, PartialEq, Eq, Debug)]
 pub enum Kind {
@@ -83,25 +85,28 @@ const FORMS: [Form; 9] = [
     },
 ];
 
+// A function over a slice: a search of the constant table itself is not proved.
 fn find(forms: &[Form], byte: u8) -> Option<Kind>
     ensures { result ≡ kind_in forms.now byte }
 {
-    for form in forms {
-        if form.byte == byte {
-            return Some(form.kind);
-        }
+    forms
+        .iter()
+        .find(|form| form.byte == byte)
+        .map(|form| form.kind)
+}
+
+// The kind of the frames that begin with a byte.
+impl TryFrom<u8> for Kind {
+    type Error = NotAFrame;
+
+    ghost try_from_gives = { λ byte result. result ≡ kind_read byte };
+
+    fn try_from(byte: u8) -> Result<Kind, NotAFrame> {
+        find(&FORMS, byte).ok_or(NotAFrame)
     }
-    None
 }
 
 impl Kind {
-    // The kind of the frames that begin with a byte.
-    pub fn of(byte: u8) -> Option<Kind>
-        ensures { result ≡ kind_of byte }
-    {
-        find(&FORMS, byte)
-    }
-
     pub fn form(self) -> Form
         ensures { result ≡ form_of self }
     {

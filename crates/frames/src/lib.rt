@@ -1,6 +1,10 @@
 // Frames: what a line of a text says, once its digits are read.
 #![tactic(auto)]
 
+ghost use Rattle.std.specs.Prelude.{◌≡◌};
+ghost use Rattle.refusals.specs.declared.Refusal.TheVariants.{Frame as FrameRefusal};
+
+use refusals::Refusal;
 use rules::Rule;
 
 pub mod kinds;
@@ -11,7 +15,8 @@ mod tests;
 pub mod write;
 
 // A frame with its fields in the order of the format. `phases` and `sources` are the bytes of what
-// a schedule or a gate lists, `count` of them: 8 bytes for a phase and 2 for a source.
+// a schedule or a gate lists, `count` of them: 8 bytes for a phase and 2 for a source. `count` is a field of
+// the format, and writing refuses a frame that lists another number: a narrower type would ask more of callers.
 #[derive(Clone, Copy)]
 pub enum Frame<'a> {
     Schedule {
@@ -54,4 +59,17 @@ pub enum Frame<'a> {
     },
     Seal,
     Reopen,
+}
+
+// Bytes that are no frame: their kind or rule is unknown, or they are longer or shorter than their kind and
+// count say.
+#[derive(Clone, Copy, PartialEq, Eq, Debug)]
+pub struct NotAFrame;
+
+impl From<NotAFrame> for Refusal {
+    ghost from_gives = { λ _ refusal. refusal ≡ FrameRefusal };
+
+    fn from(_none: NotAFrame) -> Refusal {
+        Refusal::Frame
+    }
 }

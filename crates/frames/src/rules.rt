@@ -1,33 +1,35 @@
 // The coupling rules that a frame can name, each by its byte.
 ghost use Rattle.std.specs.Prelude.{◌≡◌};
-ghost use Rattle.frames.specs.Rules.{rule_byte, rule_of};
+ghost use Rattle.frames.specs.Rules.{rule_byte, rule_read};
+
+use super::NotAFrame;
 
 #[derive(Clone, Copy, PartialEq, Eq, Debug)]
 pub enum Rule {
-    Never,
-    ThreeOccurrences,
-    Always,
+    Never = 0,
+    ThreeOccurrences = 1,
+    Always = 2,
 }
 
-impl Rule {
-    pub fn byte(self) -> u8
-        ensures { result ≡ rule_byte self }
-    {
-        match self {
-            Rule::Never => 0,
-            Rule::ThreeOccurrences => 1,
-            Rule::Always => 2,
-        }
-    }
+impl From<Rule> for u8 {
+    ghost from_gives = { λ rule byte. byte ≡ rule_byte rule };
 
-    pub fn of(byte: u8) -> Option<Rule>
-        ensures { result ≡ rule_of byte }
-    {
+    fn from(rule: Rule) -> u8 {
+        rule as u8
+    }
+}
+
+impl TryFrom<u8> for Rule {
+    type Error = NotAFrame;
+
+    ghost try_from_gives = { λ byte result. result ≡ rule_read byte };
+
+    fn try_from(byte: u8) -> Result<Rule, NotAFrame> {
         match byte {
-            0 => Some(Rule::Never),
-            1 => Some(Rule::ThreeOccurrences),
-            2 => Some(Rule::Always),
-            _ => None,
+            0 => Ok(Rule::Never),
+            1 => Ok(Rule::ThreeOccurrences),
+            2 => Ok(Rule::Always),
+            _ => Err(NotAFrame),
         }
     }
 }

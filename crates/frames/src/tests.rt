@@ -21,10 +21,9 @@ const COUPLE: [u8; 13] = [6, 0, 1, 2, 0, 0, 0, 0, 3, 0, 0, 0, 4];
 // Whether a frame is written as these bytes, and the byte past them is left as it was.
 fn is_written_as(frame: &Frame<'_>, bytes: &[u8]) -> bool {
     let mut out = [7; 20];
-    match write(frame, &mut out) {
-        Ok(count) => count < 20 && &out[0..count] == bytes && out[count] == 7,
-        Err(_) => false,
-    }
+    write(frame, &mut out).is_ok_and(|count| count < 20
+        && &out[..count] == bytes
+        && out[count] == 7)
 }
 
 // Whether bytes are read as a frame.
@@ -149,9 +148,9 @@ fn lengths(rt: HostRuntime) {
         bytes[0] = kind;
         assert!(rt; 0 < length && length < 19);
         assert!(rt;
-            !is_frame(&bytes[0..length - 1])
-                && is_frame(&bytes[0..length])
-                && !is_frame(&bytes[0..length + 1])
+            !is_frame(&bytes[..length - 1])
+                && is_frame(&bytes[..length])
+                && !is_frame(&bytes[..length + 1])
         );
     }
 }
@@ -161,11 +160,11 @@ fn counts(rt: HostRuntime) {
     let mut schedule = [0; 146];
     schedule[0] = 1;
     schedule[9] = 17;
-    assert!(rt; is_frame(&schedule) && !is_frame(&schedule[0..145]));
+    assert!(rt; is_frame(&schedule) && !is_frame(&schedule[..145]));
     let mut gate = [0; 21];
     gate[0] = 3;
     gate[10] = 5;
-    assert!(rt; is_frame(&gate) && !is_frame(&gate[0..20]));
+    assert!(rt; is_frame(&gate) && !is_frame(&gate[..20]));
 }
 
 #[test]

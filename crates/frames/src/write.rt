@@ -1,5 +1,6 @@
 // Writing a frame as bytes.
 ghost use Rattle.std.specs.Prelude.{◌≡◌, ◌≤◌, [], ◌∷◌, ◌++◌, length, drop};
+ghost use Rattle.std.specs.List.{flat_map};
 ghost use Rattle.frames.specs.Kinds.{byte_of, widths, fixed_width};
 ghost use Rattle.frames.specs.Frames.{join, fields_of, Fit};
 ghost use Rattle.frames.specs.Contents.{content_of, count_of, Written};
@@ -37,69 +38,17 @@ fn listing<'a>(frame: &Frame<'a>) -> (&'a [u8], u8)
     }
 }
 
-fn put(bytes: &[u8], out: &mut [u8])
-    requires { length bytes.now ≤ length out.old }
-    ensures { out.new ≡ bytes.now ++ drop (length bytes.now) out.old }
+// Writes fields one after another into the first places of `out`: `place` is where the next one goes, which
+// depends on the widths of those before it.
+fn put(fields: &[&[u8]], out: &mut [u8])
+    requires { length (flat_map (λ field. field.now) fields.now) ≤ length out.old }
+    ensures { out.new ≡ flat_map (λ field. field.now) fields.now ++ drop (length (flat_map (λ field. field.now) fields.now)) out.old }
 {
-    out[0..bytes.len()].copy_from_slice(bytes);
-}
-
-fn schedule(period: u32, proximity: u32, count: u8) -> [u8; 10]
-    ensures { result ≡ byte_of Kind.Schedule ∷ join (widths Kind.Schedule) (period ∷ proximity ∷ count ∷ []) }
-{
-    let kind = Kind::Schedule.form().byte;
-    let [a, b, c, d] = period.to_be_bytes();
-    let [e, f, g, h] = proximity.to_be_bytes();
-    [kind, a, b, c, d, e, f, g, h, count]
-}
-
-fn input(phase: u8, earliest: u32, latest: u32) -> [u8; 10]
-    ensures { result ≡ byte_of Kind.Input ∷ join (widths Kind.Input) (phase ∷ earliest ∷ latest ∷ []) }
-{
-    let kind = Kind::Input.form().byte;
-    let [a, b, c, d] = earliest.to_be_bytes();
-    let [e, f, g, h] = latest.to_be_bytes();
-    [kind, phase, a, b, c, d, e, f, g, h]
-}
-
-fn gate(phase: u8, least: u32, greatest: u32, count: u8) -> [u8; 11]
-    ensures { result ≡ byte_of Kind.Gate ∷ join (widths Kind.Gate) (phase ∷ least ∷ greatest ∷ count ∷ []) }
-{
-    let kind = Kind::Gate.form().byte;
-    let [a, b, c, d] = least.to_be_bytes();
-    let [e, f, g, h] = greatest.to_be_bytes();
-    [kind, phase, a, b, c, d, e, f, g, h, count]
-}
-
-fn latch(phase: u8, least: u32, greatest: u32, setup: u32, hold: u32) -> [u8; 18]
-    ensures { result ≡ byte_of Kind.Latch ∷ join (widths Kind.Latch) (phase ∷ least ∷ greatest ∷ setup ∷ hold ∷ []) }
-{
-    let kind = Kind::Latch.form().byte;
-    let [a, b, c, d] = least.to_be_bytes();
-    let [e, f, g, h] = greatest.to_be_bytes();
-    let [i, j, k, l] = setup.to_be_bytes();
-    let [m, n, o, p] = hold.to_be_bytes();
-    [kind, phase, a, b, c, d, e, f, g, h, i, j, k, l, m, n, o, p]
-}
-
-fn feed(latch: u16, source: u16) -> [u8; 5]
-    ensures { result ≡ byte_of Kind.Feed ∷ join (widths Kind.Feed) (latch ∷ source ∷ []) }
-{
-    let kind = Kind::Feed.form().byte;
-    let [a, b] = latch.to_be_bytes();
-    let [c, d] = source.to_be_bytes();
-    [kind, a, b, c, d]
-}
-
-fn couple(victim: u16, aggressor: u16, assisting: u32, opposing: u32) -> [u8; 13]
-    ensures { result ≡ byte_of Kind.Couple ∷ join (widths Kind.Couple) (victim ∷ aggressor ∷ assisting ∷ opposing ∷ []) }
-{
-    let kind = Kind::Couple.form().byte;
-    let [a, b] = victim.to_be_bytes();
-    let [c, d] = aggressor.to_be_bytes();
-    let [e, f, g, h] = assisting.to_be_bytes();
-    let [i, j, k, l] = opposing.to_be_bytes();
-    [kind, a, b, c, d, e, f, g, h, i, j, k, l]
+    let mut place = 0;
+    for field in fields {
+        out[place..place + field.len()].copy_from_slice(field);
+        place += field.len();
+    }
 }
 
 // Writes a frame's kind and fixed fields into the first places of `out`.
@@ -108,42 +57,88 @@ fn put_fields(frame: &Frame<'_>, out: &mut [u8])
     ensures fit { Fit (widths (content_of frame.now).kind) (content_of frame.now).numbers }
     ensures after { out.new ≡ fields_of (content_of frame.now) ++ drop (fixed_width (content_of frame.now).kind) out.old }
 {
+    let kind = &[frame.kind().form().byte];
     match *frame {
         Frame::Schedule {
             period,
             proximity,
             count,
             ..
-        } => put(&schedule(period, proximity, count), out),
+        } => put(
+            &[
+                kind,
+                &period.to_be_bytes(),
+                &proximity.to_be_bytes(),
+                &count.to_be_bytes(),
+            ],
+            out,
+        ),
         Frame::Input {
             phase,
             earliest,
             latest,
-        } => put(&input(phase, earliest, latest), out),
+        } => put(
+            &[
+                kind,
+                &phase.to_be_bytes(),
+                &earliest.to_be_bytes(),
+                &latest.to_be_bytes(),
+            ],
+            out,
+        ),
         Frame::Gate {
             phase,
             least,
             greatest,
             count,
             ..
-        } => put(&gate(phase, least, greatest, count), out),
+        } => put(
+            &[
+                kind,
+                &phase.to_be_bytes(),
+                &least.to_be_bytes(),
+                &greatest.to_be_bytes(),
+                &count.to_be_bytes(),
+            ],
+            out,
+        ),
         Frame::Latch {
             phase,
             least,
             greatest,
             setup,
             hold,
-        } => put(&latch(phase, least, greatest, setup, hold), out),
-        Frame::Feed { latch, source } => put(&feed(latch, source), out),
+        } => put(
+            &[
+                kind,
+                &phase.to_be_bytes(),
+                &least.to_be_bytes(),
+                &greatest.to_be_bytes(),
+                &setup.to_be_bytes(),
+                &hold.to_be_bytes(),
+            ],
+            out,
+        ),
+        Frame::Feed { latch, source } => {
+            put(&[kind, &latch.to_be_bytes(), &source.to_be_bytes()], out)
+        }
         Frame::Couple {
             victim,
             aggressor,
             assisting,
             opposing,
-        } => put(&couple(victim, aggressor, assisting, opposing), out),
-        Frame::Verify { rule } => put(&[Kind::Verify.form().byte, rule.byte()], out),
-        Frame::Seal => put(&[Kind::Seal.form().byte], out),
-        Frame::Reopen => put(&[Kind::Reopen.form().byte], out),
+        } => put(
+            &[
+                kind,
+                &victim.to_be_bytes(),
+                &aggressor.to_be_bytes(),
+                &assisting.to_be_bytes(),
+                &opposing.to_be_bytes(),
+            ],
+            out,
+        ),
+        Frame::Verify { rule } => put(&[kind, &[rule.into()]], out),
+        Frame::Seal | Frame::Reopen => put(&[kind], out),
     }
 }
 
@@ -153,15 +148,14 @@ pub fn write(frame: &Frame<'_>, out: &mut [u8]) -> Result<usize, Refusal>
 {
     let form = frame.kind().form();
     let (listed, count) = listing(frame);
-    if listed.len() != form.item * count as usize {
+    if listed.len() != form.item * usize::from(count) {
         return Err(Refusal::Frame);
     }
-    let fixed = form.fixed;
-    let length = fixed + listed.len();
+    let length = form.fixed + listed.len();
     if out.len() < length {
         return Err(Refusal::Short);
     }
     put_fields(frame, out);
-    out[fixed..length].copy_from_slice(listed);
+    out[form.fixed..length].copy_from_slice(listed);
     Ok(length)
 }

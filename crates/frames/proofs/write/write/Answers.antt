@@ -1,3 +1,4 @@
+-- The fixed fields and the listed bytes behind them are the frame.
 use Rattle.std.proofs.Common.{◌≡◌, ◌+◌, ◌-◌, ◌*◌, length, Ok, sym, ap, ◌∙◌, subst, arith}
 use borrow.Rule.Slice.PartMut.{put_mid}
 use Rattle.frames.specs.Kinds.{fixed_width, item_width}
