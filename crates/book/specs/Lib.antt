@@ -1,2 +1,2 @@
-pub mod Clocks
+-- The definitions of this crate, in reading order.
 pub mod Taking

@@ -3,18 +3,18 @@ use Rattle.std.specs.Prelude.{◌≡◌, Bool, cond, Some, None, Ok, Err, Option
 use Rattle.refusals.specs.declared.Refusal.{Refusal}
 use Rattle.refusals.specs.declared.Refusal.TheVariants.{Clock as ClockRefusal, Order}
 use Rattle.schedule.specs.Clock.{Clock, lawful, cleared}
-use Rattle.schedule.specs.Made.{shown, may_replace}
+use Rattle.schedule.specs.Made.{may_replace}
 use Rattle.frames.specs.declared.kinds.Kind.{Kind}
 use Rattle.frames.specs.declared.kinds.Kind.TheVariants.{Schedule, Input, Gate, Latch, Feed, Couple, Verify, Seal, Reopen}
 use Rattle.frames.specs.Frames.{Content}
 use Rattle.book.specs.declared.Book.{Book}
 use Rattle.book.specs.declared.Book.TheVariants.{Unopened, Open}
-use Rattle.book.specs.Clocks.{clock_in}
+use Rattle.reading.specs.Clocks.{clock_in}
 
 -- the clock of a book that is open
 abbrev pub clock_of : Book → Option Clock
 clock_of Unopened = None
-clock_of (Open s) = Some (shown s)
+clock_of (Open s) = Some s
 
 -- what a book answers to a frame, and its clock afterwards
 pub record Outcome : Type 0 where

@@ -2,31 +2,35 @@
 #![tactic(auto)]
 
 use book::Book;
-use session::{GREATEST_TEXT, PRINTED, admit, answer, put_number};
+use session::{PRINTED, admit, answer, put_number};
 use std::io;
 use std::io::{BufWriter, Read, Write};
-use text::lines::Lines;
+use text::admission::GREATEST_TEXT;
 
-// Prints the answer to each line of a text, or one refusal of the whole text.
+// Prints the answer to each line of a text, or one refusal of the whole text. This loop stands in each program: the two
+// answer a line from different books, and one loop for both would be handed the answer as a closure, which is no plainer.
 fn mark<W: Write>(text: &[u8], out: &mut W) -> io::Result<()> {
     // Long enough for a printed line, so that no call below is refused as short.
     let mut room = [0; PRINTED];
-    if let Err(refusal) = admit(text) {
-        if let Ok(count) = put_number(refusal.number(), &mut room) {
-            out.write_all(&room[0..count])?;
+    let lines = match admit(text) {
+        Ok(lines) => lines,
+        Err(refusal) => {
+            if let Ok(count) = put_number(refusal.into(), &mut room) {
+                out.write_all(&room[..count])?;
+            }
+            return Ok(());
         }
-        return Ok(());
-    }
+    };
     let mut book = Book::Unopened;
-    let mut lines = Lines::new(text);
-    while let Some(line) = lines.next() {
+    for line in lines {
         if let Ok(count) = answer(&mut book, line.bytes, &mut room) {
-            out.write_all(&room[0..count])?;
+            out.write_all(&room[..count])?;
         }
     }
     Ok(())
 }
 
+// A `main` of its own: one for both programs would be handed `mark` as a closure, and is no plainer.
 fn main(rt: HostRuntime) -> io::Result<()> {
     let mut text = Vec::new(rt.alloc());
     // One byte more than a text may have, so that a longer one is known by its length.

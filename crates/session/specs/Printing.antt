@@ -1,23 +1,26 @@
 -- What is printed for a line, and for a whole text.
-use Rattle.std.specs.Prelude.{◌≡◌, ℕ, ◌<◌, ◌≤◌, cond, List, [], ◌∷◌, ◌++◌, length, take, drop, Some, None, Ok, Err, Option, Result, nat_le}
+use Rattle.std.specs.Prelude.{◌≡◌, ℕ, ◌<◌, ◌≤◌, List, [], ◌∷◌, ◌++◌, length, take, drop, Some, None, Ok, Err, Option, Result}
 use Rattle.refusals.specs.declared.Refusal.{Refusal}
-use Rattle.refusals.specs.declared.Refusal.TheVariants.{Full, Short, Digits, Frame}
+use Rattle.refusals.specs.declared.Refusal.TheVariants.{Full, Short}
 use Rattle.refusals.specs.Numbers.{number_of}
 use Rattle.schedule.specs.Clock.{Clock}
-use Rattle.text.specs.Lines.{line_feed, lines_of}
-use Rattle.text.specs.Digits.{is_hex, bytes_of, digits_of}
-use Rattle.frames.specs.Frames.{Content, frame_of}
+use Rattle.text.specs.declared.lines.Lines.{Lines}
+use Rattle.text.specs.Lines.{lines_of}
+use Rattle.text.specs.Spelling.{line_for}
+use Rattle.text.specs.Admission.{greatest_text, printed_within, Reads}
+use Rattle.frames.specs.Frames.{Content}
+use Rattle.reading.specs.Line.{line_frame}
 use Rattle.book.specs.declared.Book.{Book}
 use Rattle.book.specs.Taking.{Outcome, refused, taken, clock_of}
 
--- bytes that are no frame are refused, and a frame is put to the book
-abbrev pub framed : Option Clock → Option Content → Outcome
-framed clock None = refused clock Frame
-framed clock (Some f) = taken clock f
+-- a frame is put to the book; where a line has none, the book is left alone
+abbrev pub put_to : Option Clock → Result Content Refusal → Outcome
+put_to clock (Ok f) = taken clock f
+put_to clock (Err why) = refused clock why
 
--- a line is tested for digits first, then for a frame, then by the book
+-- what a line does: its digits are tested first, then its frame, then the book takes it or not
 abbrev pub answered : Option Clock → List ℕ → Outcome
-answered clock line = cond (is_hex line) (framed clock (frame_of (bytes_of line))) (refused clock Digits)
+answered clock line = put_to clock (line_frame line)
 
 -- a granted line is answered with 0, a refused one with the number of its refusal
 abbrev pub number_for : Option Refusal → ℕ
@@ -26,7 +29,7 @@ number_for (Some why) = number_of why
 
 -- a number in one byte as a printed line
 abbrev pub printed : ℕ → List ℕ
-printed n = digits_of n ++ line_feed ∷ []
+printed n = line_for (n ∷ [])
 
 -- what is printed for a line
 abbrev pub reply : Option Clock → List ℕ → List ℕ
@@ -37,17 +40,13 @@ abbrev pub output : Option Clock → List (List ℕ) → List ℕ
 output clock [] = []
 output clock (line ∷ others) = reply clock line ++ output (answered clock line).clock others
 
--- how many bytes a text may have
-abbrev pub greatest_text : ℕ
-greatest_text = 65536
-
 -- what is printed for a text, from an unopened book on; a text that is too long is refused whole
 abbrev pub output_of : List ℕ → List ℕ
-output_of text = cond (nat_le (length text) greatest_text) (output None (lines_of text)) (printed (number_of Full))
+output_of text = printed_within (λ t. output None (lines_of t)) text
 
--- admitting a text: its output is that of its lines, or of the refusal
-abbrev pub Admitted : List ℕ → Result Unit Refusal → Type 0
-Admitted text (Ok _) = (length text ≤ greatest_text) × (output_of text ≡ output None (lines_of text))
+-- admitting a text hands out its reader: its output is that of its lines, or of the refusal
+abbrev pub Admitted : List ℕ → Result Lines Refusal → Type 0
+Admitted text (Ok lines) = (length text ≤ greatest_text) × Reads text lines × (output_of text ≡ output None (lines_of text))
 Admitted text (Err why) = (greatest_text < length text) × (why ≡ Full) × (output_of text ≡ printed (number_of why))
 
 -- bytes written into the first places of a buffer, or refused where it is too short

@@ -1,3 +1,4 @@
+-- The answers to what the check asks of `take`.
 use Rattle.std.proofs.Common.{◌≡◌, sym, ap, ◌∙◌, subst}
 use Rattle.frames.specs.Contents.{content_of}
 use Rattle.schedule.specs.Made.{drawn}
