@@ -1,4 +1,4 @@
-pub mod Lists
+-- The lemmas of this crate.
 pub mod Granted
 pub mod Growing
 pub mod Standing

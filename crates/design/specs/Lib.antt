@@ -1,3 +1,4 @@
+-- The definitions of this crate, in reading order.
 pub mod Rows
 pub mod Table
 pub mod Calls

@@ -1,7 +1,9 @@
 -- The rows of a design: the kinds of node and what each holds, couplings, and the limits of their figures.
-use Rattle.std.specs.Prelude.{◌≡◌, ℕ, ◌+◌, ◌-◌, Bool, true, false, cond, ◌&&◌, ◌||◌, List, [], ◌∷◌, ◌++◌, length, take, replicate, Some, None, Option, ◌==◌, nat_lt}
+use Rattle.std.specs.Prelude.{◌≡◌, ℕ, ◌+◌, ◌-◌, Bool, true, false, cond, ◌&&◌, List, [], ◌∷◌, ◌++◌, length, take, replicate, Some, None, Ok, Err, Result, ◌==◌, nat_lt}
+use Rattle.std.specs.List.{list_any}
 use Rattle.schedule.specs.Clock.{between}
 use Rattle.design.specs.declared.nodes.Sources.{Sources}
+use Rattle.design.specs.declared.nodes.WrongFan.{WrongFan}
 use Rattle.design.specs.declared.nodes.Node.{Node}
 use Rattle.design.specs.declared.nodes.Node.TheVariants.{Free, Input, Gate, Latch}
 use Rattle.design.specs.declared.couplings.Coupling.{Coupling}
@@ -20,8 +22,7 @@ greatest_fan = 4
 
 -- one figure of a list is above a limit
 abbrev pub any_above : ℕ → List ℕ → Bool
-any_above limit [] = false
-any_above limit (x ∷ xs) = nat_lt limit x || any_above limit xs
+any_above limit xs = list_any (nat_lt limit) xs
 
 -- the sources of a gate, in their order
 abbrev pub sources_in : Sources → List ℕ
@@ -35,10 +36,10 @@ has_fan sources = between 1 (length sources) greatest_fan
 abbrev pub gathered : List ℕ → Sources
 gathered sources = record { count = length sources; nodes = sources ++ replicate (greatest_fan - length sources) 0 }
 
--- gathering a list of sources answers none where it has not 1 to 4 of them
-abbrev pub Gathered : List ℕ → Option Sources → Type 0
-Gathered sources (Some s) = (has_fan sources ≡ true) × (s ≡ gathered sources)
-Gathered sources None = has_fan sources ≡ false
+-- gathering a list of sources is refused where it has not 1 to 4 of them
+abbrev pub Gathered : List ℕ → Result Sources WrongFan → Type 0
+Gathered sources (Ok s) = (has_fan sources ≡ true) × (s ≡ gathered sources)
+Gathered sources (Err _) = has_fan sources ≡ false
 
 -- a row that holds a node
 abbrev pub is_node : Node → Bool
@@ -92,8 +93,7 @@ is_pair victim aggressor k = k.victim == victim && k.aggressor == aggressor
 
 -- one of the couplings is of this victim with this aggressor
 abbrev pub is_coupled : List Coupling → ℕ → ℕ → Bool
-is_coupled [] victim aggressor = false
-is_coupled (k ∷ ks) victim aggressor = is_pair victim aggressor k || is_coupled ks victim aggressor
+is_coupled ks victim aggressor = list_any (is_pair victim aggressor) ks
 
 -- the assisting amounts of a victim, summed
 abbrev pub assisting_of : List Coupling → ℕ → ℕ

@@ -1,9 +1,9 @@
 -- The table: what a book says together with its schedule and its lent rows.
-use Rattle.std.specs.Prelude.{ℕ, zero, suc, min, Bool, true, false, List, [], ◌∷◌, length, take}
-use Rattle.schedule.specs.declared.Schedule.{Schedule}
+use Rattle.std.specs.Prelude.{◌≡◌, ℕ, zero, suc, min, Bool, true, false, List, [], ◌∷◌, length, take}
 use Rattle.schedule.specs.Clock.{Clock}
 use Rattle.design.specs.declared.nodes.Node.{Node}
 use Rattle.design.specs.declared.couplings.Coupling.{Coupling}
+use Rattle.design.specs.declared.tables.Tables.{Tables}
 
 -- the state of a book
 pub data State : Type 0 where
@@ -55,9 +55,13 @@ lent_couplings lent t = take lent.couplings t.couplings
 
 -- what a call is lent beside the book: the schedule record, and the contents of the node table and the coupling table
 pub record Loan : Type 0 where
-  pub schedule : Schedule
+  pub schedule : Clock
   pub nodes : List Node
   pub couplings : List Coupling
+
+-- the loan that lent tables make as they stand
+abbrev pub loan_in : Tables → Loan
+loan_in t = record { schedule = t.schedule.now; nodes = t.nodes.now; couplings = t.couplings.now }
 
 abbrev pub lent_in : Loan → Lent
 lent_in loan = record { nodes = length loan.nodes; couplings = length loan.couplings }
@@ -67,3 +71,11 @@ abbrev pub first : {X : Type 0} → X → ℕ → List X → List X
 first d zero xs = []
 first d (suc n) [] = d ∷ first d n []
 first d (suc n) (x ∷ xs) = x ∷ first d n xs
+
+-- the tables that were lent before, with as many rows, whatever they hold now
+abbrev pub SameTables : Tables → Tables → Type 0
+SameTables t t' =
+    (t'.schedule.ghost_name ≡ t.schedule.ghost_name)
+    × (t'.nodes.ghost_name ≡ t.nodes.ghost_name)
+    × (t'.couplings.ghost_name ≡ t.couplings.ghost_name)
+    × (lent_in (loan_in t') ≡ lent_in (loan_in t))

@@ -1,5 +1,6 @@
 -- The tests of each call, in their order, and what a call is refused with.
-use Rattle.std.specs.Prelude.{ℕ, ◌+◌, Bool, false, cond, not, ◌&&◌, ◌||◌, List, [], ◌∷◌, length, Some, None, Option, ◌==◌, nat_le, nat_lt, slice_index_or}
+use Rattle.std.specs.Prelude.{ℕ, ◌+◌, Bool, cond, not, ◌&&◌, ◌||◌, List, [], ◌∷◌, length, Some, None, Option, ◌==◌, nat_le, nat_lt, slice_index_or}
+use Rattle.std.specs.List.{list_any}
 use Rattle.refusals.specs.declared.Refusal.{Refusal}
 use Rattle.refusals.specs.declared.Refusal.TheVariants.{Full, Phase, Span, Figure, Fan, Node as NoNode, Pair, Assist, Clock as NoClock, Unfed, Short, Order}
 use Rattle.schedule.specs.Clock.{lawful, has_phase}
@@ -31,8 +32,7 @@ abbrev pub is_other : (Node → Bool) → Lent → Table → ℕ → Bool
 is_other allowed l t k = nat_le (length t.nodes) k || (nat_lt k (length (lent_nodes l t)) && not (allowed (slice_index_or (lent_nodes l t) k Free)))
 
 abbrev pub any_other : (Node → Bool) → Lent → Table → List ℕ → Bool
-any_other allowed l t [] = false
-any_other allowed l t (k ∷ ks) = is_other allowed l t k || any_other allowed l t ks
+any_other allowed l t ks = list_any (is_other allowed l t) ks
 
 -- a victim that is its own aggressor, or that has the aggressor already
 abbrev pub is_paired : Lent → Table → ℕ → ℕ → Bool
@@ -44,8 +44,7 @@ is_over l t victim assisting = nat_lt victim (length (lent_nodes l t)) && nat_lt
 
 -- one of the latches has no source
 abbrev pub any_unfed : List Node → Bool
-any_unfed [] = false
-any_unfed (x ∷ xs) = is_unfed x || any_unfed xs
+any_unfed xs = list_any is_unfed xs
 
 -- a lent table has fewer rows than are granted, or no row for what the call adds: so many nodes and couplings
 abbrev pub is_short : Lent → Table → ℕ → ℕ → Bool

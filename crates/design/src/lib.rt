@@ -3,5 +3,7 @@
 
 pub mod calls;
 pub mod couplings;
+mod kinds;
 pub mod nodes;
 mod sources;
+pub mod tables;

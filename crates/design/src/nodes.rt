@@ -1,13 +1,18 @@
 // The rows of a node table.
 
-// The nodes that drive a gate: the first `count` places of `nodes`.
+// The nodes that drive a gate: the first `count` places of `nodes`, in the row itself, since only the lent table keeps them.
 #[derive(Clone, Copy)]
 pub struct Sources {
     pub count: u8,
     pub nodes: [u16; 4],
 }
 
-// A row of the node table. A free row holds no node.
+// A list of no sources, or of more than a gate has.
+#[derive(Clone, Copy, PartialEq, Eq, Debug)]
+pub struct WrongFan;
+
+// A row of the node table. A free row holds no node. The fields stand in the enum itself: callers who
+// fill a table write them there.
 #[derive(Clone, Copy)]
 pub enum Node {
     Free,

@@ -1,3 +1,2 @@
-pub mod Walks
+-- The lemmas of this crate.
 pub mod Seen
-pub mod Sums

@@ -1,21 +1,16 @@
 -- What the tests say of a table, said of the lent rows that it is made of.
-use Rattle.std.proofs.Common.{◌≡◌, ℕ, zero, suc, ◌+◌, ◌<◌, ◌≤◌, Bool, not, ◌&&◌, ◌||◌, ltb, leb, List, [], ◌∷◌, ◌++◌, length, get_or, take, set, refl, ap, ◌∙◌, add-one, arith, drop-set-lt}
-use Rattle.std.proofs.lemmas.Bool.Decides.{leb_tells, eqb_tells}
-use Rattle.std.proofs.lemmas.List.{get_or_past}
+use Rattle.std.proofs.Common.{◌≡◌, ℕ, zero, suc, ◌+◌, ◌<◌, ◌≤◌, Bool, true, false, cond, eqb, not, ◌&&◌, ◌||◌, ltb, leb, List, [], ◌∷◌, ◌++◌, map, sum, length, get_or, take, set, refl, ap, ◌∙◌, add-one, arith, drop-set-lt}
+use Rattle.std.proofs.lemmas.Bool.Decides.{leb_tells, eqb_tells, nat_tests}
+use Rattle.std.proofs.lemmas.List.{get_or_past, length-take, get_or-take}
 use Rattle.design.specs.declared.nodes.Node.{Node}
 use Rattle.design.specs.declared.nodes.Node.TheVariants.{Free}
 use Rattle.design.specs.Rows.{no_coupling}
-use Rattle.design.specs.Table.{State, Loan, lent_in, lent_nodes, lent_couplings, first}
+use Rattle.design.specs.Table.{State, unopened, draft, sealed, is_open, Loan, lent_in, first}
+use Rattle.design.specs.Calls.{among}
 use Rattle.design.specs.Tests.{is_other, any_other, is_short}
 use Rattle.states.specs.declared.counts.Counts.{Counts}
 use Rattle.states.specs.Views.{table_of}
 use Rattle.states.specs.Roles.{other_in, any_other_in}
-
--- what is taken from the front of a list is no longer than was asked for
-length-take_short : {X : Type 0} (n : ℕ) (xs : List X) → length (take n xs) ≤ n
-length-take_short zero xs = omega arith
-length-take_short (suc n) [] = omega arith
-length-take_short (suc n) (x ∷ xs) = omega (arith, length-take_short n xs)
 
 pub length-first : {X : Type 0} (d : X) (n : ℕ) (xs : List X) → length (first d n xs) ≡ n
 length-first d zero xs = refl
@@ -54,30 +49,25 @@ get_or-first d (suc n) zero (x ∷ xs) h = refl
 get_or-first d (suc n) (suc i) [] h = get_or-first d n i [] (omega arith)
 get_or-first d (suc n) (suc i) (x ∷ xs) h = get_or-first d n i xs (omega arith)
 
-pub nodes_seen : (s : State) (n : Counts) (loan : Loan) → lent_nodes (lent_in loan) (table_of s n loan) ≡ take n.nodes loan.nodes
-nodes_seen s n loan = take-first Free n.nodes loan.nodes
+-- a granted row that the table has
+other_seen : (allowed : Node → Bool) (s : State) (n : Counts) (loan : Loan) (k : ℕ) → is_other allowed (lent_in loan) (table_of s n loan) k ≡ other_in allowed n.nodes loan.nodes k
+other_seen allowed s n loan k = grind (arith, nat_tests, length-first, take-first, length-take, get_or-take)
 
-pub couplings_seen : (s : State) (n : Counts) (loan : Loan) → lent_couplings (lent_in loan) (table_of s n loan) ≡ take n.couplings loan.couplings
-couplings_seen s n loan = take-first no_coupling n.couplings loan.couplings
-
-pub other_seen : (allowed : Node → Bool) (s : State) (n : Counts) (loan : Loan) (k : ℕ) → is_other allowed (lent_in loan) (table_of s n loan) k ≡ other_in allowed n.nodes (take n.nodes loan.nodes) k
-other_seen allowed s n loan k =
-    ap (λ m. leb m k || (ltb k (length (lent_nodes (lent_in loan) (table_of s n loan))) && not (allowed (get_or (lent_nodes (lent_in loan) (table_of s n loan)) k Free)))) (length-first Free n.nodes loan.nodes)
-    ∙ ap (λ rows. other_in allowed n.nodes rows k) (nodes_seen s n loan)
-
-pub any_other_seen : (allowed : Node → Bool) (s : State) (n : Counts) (loan : Loan) (ks : List ℕ) → any_other allowed (lent_in loan) (table_of s n loan) ks ≡ any_other_in allowed n.nodes (take n.nodes loan.nodes) ks
+pub any_other_seen : (allowed : Node → Bool) (s : State) (n : Counts) (loan : Loan) (ks : List ℕ) → any_other allowed (lent_in loan) (table_of s n loan) ks ≡ any_other_in allowed n.nodes loan.nodes ks
 any_other_seen allowed s n loan [] = refl
 any_other_seen allowed s n loan (k ∷ ks) =
     ap (λ b. b || any_other allowed (lent_in loan) (table_of s n loan) ks) (other_seen allowed s n loan k)
-    ∙ ap (λ b. other_in allowed n.nodes (take n.nodes loan.nodes) k || b) (any_other_seen allowed s n loan ks)
+    ∙ ap (λ b. other_in allowed n.nodes loan.nodes k || b) (any_other_seen allowed s n loan ks)
 
 pub short_seen : (s : State) (n : Counts) (loan : Loan) (a b : ℕ) → is_short (lent_in loan) (table_of s n loan) a b ≡ (ltb (length loan.nodes) (n.nodes + a) || ltb (length loan.couplings) (n.couplings + b))
 short_seen s n loan a b =
     ap (λ m. ltb (length loan.nodes) (m + a) || ltb (length loan.couplings) (length (first no_coupling n.couplings loan.couplings) + b)) (length-first Free n.nodes loan.nodes)
     ∙ ap (λ m. ltb (length loan.nodes) (n.nodes + a) || ltb (length loan.couplings) (m + b)) (length-first no_coupling n.couplings loan.couplings)
 
--- no more rows are granted than a book can take
-pub granted_few : {X : Type 0} (xs ys : List X) (n : ℕ) → ys ≡ take n xs → n ≤ 1024 → length ys ≤ 1024
-granted_few xs ys n e h = omega (arith, ap length e, length-take_short n xs)
+-- an open table takes another schedule
+pub open_taken : (s : State) → is_open s ≡ true → among s (draft ∷ sealed ∷ []) ≡ true
+open_taken draft e = refl
+open_taken sealed e = refl
+open_taken unopened e = cc
 
-pub ruleset table = (leb_tells, eqb_tells, length-first, take-first, first-more-set, first-set, get_or-first, drop-set-lt, get_or_past)
+pub ruleset table = (leb_tells, eqb_tells, length-first, take-first, first-more-set, first-set, get_or-first, drop-set-lt, get_or_past, length-take, get_or-take)

@@ -1,5 +1,6 @@
 -- What a call wants of a node, and the questions that the tests ask of lent rows.
-use Rattle.std.specs.Prelude.{ℕ, Bool, false, not, ◌&&◌, ◌||◌, List, [], ◌∷◌, length, nat_le, nat_lt, slice_index_or}
+use Rattle.std.specs.Prelude.{ℕ, Bool, not, ◌&&◌, ◌||◌, List, length, nat_le, nat_lt, slice_index_or}
+use Rattle.std.specs.List.{list_any}
 use Rattle.design.specs.declared.nodes.Node.{Node}
 use Rattle.design.specs.declared.nodes.Node.TheVariants.{Free}
 use Rattle.design.specs.Rows.{is_node, is_latch, is_victim}
@@ -17,5 +18,4 @@ abbrev pub other_in : (Node → Bool) → ℕ → List Node → ℕ → Bool
 other_in allowed count rows k = nat_le count k || (nat_lt k (length rows) && not (allowed (slice_index_or rows k Free)))
 
 abbrev pub any_other_in : (Node → Bool) → ℕ → List Node → List ℕ → Bool
-any_other_in allowed count rows [] = false
-any_other_in allowed count rows (k ∷ ks) = other_in allowed count rows k || any_other_in allowed count rows ks
+any_other_in allowed count rows ks = list_any (other_in allowed count rows) ks

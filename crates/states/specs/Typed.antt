@@ -2,18 +2,16 @@
 use Rattle.std.specs.Prelude.{◌≡◌, ℕ, Some, None, Ok, Err, Result}
 use Rattle.refusals.specs.declared.Refusal.{Refusal}
 use Rattle.schedule.specs.Clock.{Clock}
-use Rattle.schedule.specs.Made.{shown}
 use Rattle.design.specs.declared.calls.Answer.{Answer}
 use Rattle.design.specs.declared.calls.Answer.TheVariants.{Done, Node as NodeAnswer, Coupling as CouplingAnswer}
-use Rattle.design.specs.Table.{Loan, lent_in, empty}
-use Rattle.design.specs.Calls.{open_with, seal, reopen}
+use Rattle.design.specs.Table.{Table, Loan, lent_in, empty}
+use Rattle.design.specs.Calls.{Ask, open_with}
 use Rattle.design.specs.Tests.{refusal}
 use Rattle.design.specs.Effects.{put}
-use Rattle.states.specs.declared.Draft.{Draft}
-use Rattle.states.specs.declared.Sealed.{Sealed}
-use Rattle.states.specs.declared.StillDraft.{StillDraft}
-use Rattle.states.specs.declared.StillSealed.{StillSealed}
-use Rattle.states.specs.Views.{draft_table, sealed_table}
+use Rattle.states.specs.declared.OpenBook.{OpenBook}
+use Rattle.states.specs.declared.Refused.{Refused}
+use Rattle.states.specs.declared.stages.Filling.{Filling}
+use Rattle.states.specs.Views.{draft_table}
 
 -- the answer of a call that adds a node and gives its number
 abbrev pub node_answer : Result ℕ Refusal → Result Answer Refusal
@@ -31,20 +29,15 @@ done_answer (Ok _) = Ok Done
 done_answer (Err why) = Err why
 
 -- opening with a clock: the draft is empty, and no row is written
-abbrev pub Opened : Loan → Clock → Loan → Result Draft Refusal → Type 0
+abbrev pub Opened : Loan → Clock → Loan → Result (OpenBook Filling) Refusal → Type 0
 Opened loan clock loan' (Ok d) =
-    (refusal (lent_in loan) (empty (shown loan.schedule)) (open_with clock) ≡ None)
-    × (draft_table d loan' ≡ put (lent_in loan) (empty (shown loan.schedule)) (open_with clock))
+    (refusal (lent_in loan) (empty loan.schedule) (open_with clock) ≡ None)
+    × (draft_table d loan' ≡ put (lent_in loan) (empty loan.schedule) (open_with clock))
     × (loan'.nodes ≡ loan.nodes)
     × (loan'.couplings ≡ loan.couplings)
-Opened loan clock loan' (Err why) = (refusal (lent_in loan) (empty (shown loan.schedule)) (open_with clock) ≡ Some why) × (loan' ≡ loan)
+Opened loan clock loan' (Err why) = (refusal (lent_in loan) (empty loan.schedule) (open_with clock) ≡ Some why) × (loan' ≡ loan)
 
--- sealing takes the draft, and hands it back where it is refused
-abbrev pub SealedFrom : Draft → Loan → Result Sealed StillDraft → Type 0
-SealedFrom d loan (Ok s) = (refusal (lent_in loan) (draft_table d loan) seal ≡ None) × (sealed_table s loan ≡ put (lent_in loan) (draft_table d loan) seal)
-SealedFrom d loan (Err still) = (refusal (lent_in loan) (draft_table d loan) seal ≡ Some still.refusal) × (still.draft ≡ d)
-
--- reopening takes the sealed table, and hands it back where it is refused
-abbrev pub ReopenedFrom : Sealed → Loan → Result Draft StillSealed → Type 0
-ReopenedFrom s loan (Ok d) = (refusal (lent_in loan) (sealed_table s loan) reopen ≡ None) × (draft_table d loan ≡ put (lent_in loan) (sealed_table s loan) reopen)
-ReopenedFrom s loan (Err still) = (refusal (lent_in loan) (sealed_table s loan) reopen ≡ Some still.refusal) × (still.sealed ≡ s)
+-- a change of state takes the book, and hands it back where it is refused
+abbrev pub Changed : {A B : Type 0} → (A → Loan → Table) → (B → Loan → Table) → A → Loan → Ask → Result B (Refused A) → Type 0
+Changed view view' a loan c (Ok b) = (refusal (lent_in loan) (view a loan) c ≡ None) × (view' b loan ≡ put (lent_in loan) (view a loan) c)
+Changed view view' a loan c (Err back) = (refusal (lent_in loan) (view a loan) c ≡ Some back.refusal) × (back.book ≡ a)

@@ -1,10 +1,10 @@
-// How many rows a sealed table has.
+// How many rows an open book has granted.
 ghost use Rattle.std.specs.Prelude.{◌≡◌};
 
-use super::Sealed;
+use super::OpenBook;
 use super::counts::Counts;
 
-impl Sealed {
+impl<S> OpenBook<S> {
     pub fn counts(&self) -> Counts
         ensures { result ≡ self.now.counts }
     {

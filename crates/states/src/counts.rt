@@ -1,6 +1,10 @@
 // How many rows of its tables a book has granted, and how many it takes.
 ghost use Rattle.std.specs.Prelude.{◌≤◌};
 
+use design::couplings::Coupling;
+use design::nodes::Node;
+use refusals::Refusal;
+
 pub const MOST_NODES: usize = 4096;
 
 pub const MOST_COUPLINGS: usize = 1024;
@@ -16,4 +20,39 @@ pub struct Counts {
     ghost couplings_fit: { couplings ≤ coupling_room },
     ghost few_nodes: { node_room ≤ 4096 },
     ghost few_couplings: { coupling_room ≤ 1024 },
+}
+
+impl Counts {
+    ghost use Rattle.std.specs.Prelude.{◌≡◌};
+    ghost use Rattle.states.specs.Counting.{too_few, OneNodeMore, OneCouplingMore};
+
+    // The counts with one node more; refused where as many are granted as the book takes. Couplings have a method of their
+    // own: the four counts are public fields, and callers would have to change if they became two pairs of one type.
+    pub(crate) fn with_node(mut self) -> Result<Counts, Refusal>
+        ensures { OneNodeMore self result }
+    {
+        if self.nodes == self.node_room {
+            return Err(Refusal::Full);
+        }
+        self.nodes += 1;
+        Ok(self)
+    }
+
+    // The counts with one coupling more; refused where as many are granted as the book takes.
+    pub(crate) fn with_coupling(mut self) -> Result<Counts, Refusal>
+        ensures { OneCouplingMore self result }
+    {
+        if self.couplings == self.coupling_room {
+            return Err(Refusal::Full);
+        }
+        self.couplings += 1;
+        Ok(self)
+    }
+
+    // Whether a lent table has fewer rows than are counted.
+    pub fn is_short(self, nodes: &[Node], couplings: &[Coupling]) -> bool
+        ensures { result ≡ too_few self nodes.now couplings.now }
+    {
+        nodes.len() < self.nodes || couplings.len() < self.couplings
+    }
 }

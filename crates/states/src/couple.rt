@@ -5,9 +5,8 @@ ghost use Rattle.states.specs.Views.{loan_of, draft_table};
 ghost use Rattle.states.specs.Typed.{coupling_answer};
 
 use super::Draft;
-use super::counts::Counts;
 use super::figures::{GREATEST_DELAY, any_above};
-use super::scan::{Role, exceeds, granted, is_other, is_short, met};
+use super::scan::{Role, assisting_of, exceeds, granted, is_coupled};
 use design::couplings::Coupling;
 use design::nodes::Node;
 use refusals::Refusal;
@@ -24,41 +23,36 @@ impl Draft {
     ) -> Result<u16, Refusal>
         ensures { Answered draft_table self.old (loan_of schedule.now nodes.now couplings.old) (couple coupling.victim coupling.aggressor coupling.assisting coupling.opposing) self.new (loan_of schedule.now nodes.now couplings.new) (coupling_answer result) }
     {
+        let Coupling {
+            victim,
+            aggressor,
+            assisting,
+            opposing,
+        } = coupling;
         let counts = self.counts;
-        let k = counts.couplings;
-        if k == counts.coupling_room {
-            return Err(Refusal::Full);
-        }
-        if any_above(GREATEST_DELAY, &[coupling.assisting, coupling.opposing]) {
+        let more = counts.with_coupling()?;
+        if any_above(GREATEST_DELAY, &[assisting, opposing]) {
             return Err(Refusal::Figure);
         }
-        let rows = granted(nodes, counts.nodes);
-        if is_other(Role::Victim, rows, counts.nodes, coupling.victim)
-            || is_other(Role::Source, rows, counts.nodes, coupling.aggressor)
+        if counts.is_other(Role::Victim, nodes, victim)
+            || counts.is_other(Role::Source, nodes, aggressor)
         {
             return Err(Refusal::Node);
         }
-        let (coupled, assisting) = met(granted(couplings, k), coupling.victim, coupling.aggressor);
-        if coupling.victim == coupling.aggressor || coupled {
+        let k = counts.couplings;
+        let entered = granted(couplings, k);
+        if victim == aggressor || is_coupled(entered, victim, aggressor) {
             return Err(Refusal::Pair);
         }
-        if exceeds(
-            rows,
-            coupling.victim,
-            assisting + u64::from(coupling.assisting),
-        ) {
+        let sum = assisting_of(entered, victim) + u64::from(assisting);
+        if exceeds(granted(nodes, counts.nodes), victim, sum) {
             return Err(Refusal::Assist);
         }
-        if is_short(counts, nodes, couplings, 0, 1) {
+        if more.is_short(nodes, couplings) {
             return Err(Refusal::Short);
         }
         couplings[k] = coupling;
-        self.counts = Counts {
-            nodes: counts.nodes,
-            couplings: k + 1,
-            node_room: counts.node_room,
-            coupling_room: counts.coupling_room,
-        };
+        self.counts = more;
         Ok(k as u16)
     }
 }

@@ -1,5 +1,4 @@
-// Opening a book, and what it counts.
-ghost use Rattle.std.specs.Prelude.{◌≡◌};
+// Opening a book.
 ghost use Rattle.schedule.specs.Made.{drawn};
 ghost use Rattle.states.specs.Views.{loan_of};
 ghost use Rattle.states.specs.Typed.{Opened};
@@ -11,6 +10,7 @@ use design::nodes::Node;
 use refusals::Refusal;
 use schedule::Schedule;
 use schedule::figures::Figures;
+use std::marker::PhantomData;
 
 impl Draft {
     // An empty draft under the schedule of the figures, which the schedule record then holds.
@@ -24,18 +24,14 @@ impl Draft {
     {
         *schedule = Schedule::new(figures)?;
         Ok(Draft {
+            // The counts of a new book: there are no earlier ones to count up from.
             counts: Counts {
                 nodes: 0,
                 couplings: 0,
                 node_room: nodes.len().min(MOST_NODES),
                 coupling_room: couplings.len().min(MOST_COUPLINGS),
             },
+            stage: PhantomData,
         })
-    }
-
-    pub fn counts(&self) -> Counts
-        ensures { result ≡ self.now.counts }
-    {
-        self.counts
     }
 }

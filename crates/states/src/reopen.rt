@@ -1,13 +1,14 @@
 // From a sealed table back to a draft.
-ghost use Rattle.states.specs.Views.{loan_of};
-ghost use Rattle.states.specs.Typed.{ReopenedFrom};
+ghost use Rattle.design.specs.Calls.{reopen};
+ghost use Rattle.states.specs.Views.{loan_of, draft_table, sealed_table};
+ghost use Rattle.states.specs.Typed.{Changed};
 
-use super::scan::is_short;
-use super::{Draft, Sealed, StillSealed};
+use super::{Draft, Refused, Sealed};
 use design::couplings::Coupling;
 use design::nodes::Node;
 use refusals::Refusal;
 use schedule::Schedule;
+use std::marker::PhantomData;
 
 impl Sealed {
     // Turns a sealed table back into a draft.
@@ -16,16 +17,18 @@ impl Sealed {
         schedule: &Schedule,
         nodes: &[Node],
         couplings: &[Coupling],
-    ) -> Result<Draft, StillSealed>
-        ensures { ReopenedFrom self (loan_of schedule.now nodes.now couplings.now) result }
+    ) -> Result<Draft, Refused<Sealed>>
+        ensures { Changed sealed_table draft_table self (loan_of schedule.now nodes.now couplings.now) reopen result }
     {
-        let counts = self.counts;
-        if is_short(counts, nodes, couplings, 0, 0) {
-            return Err(StillSealed {
-                sealed: self,
+        if self.counts.is_short(nodes, couplings) {
+            return Err(Refused {
+                book: self,
                 refusal: Refusal::Short,
             });
         }
-        Ok(Draft { counts })
+        Ok(Draft {
+            counts: self.counts,
+            stage: PhantomData,
+        })
     }
 }

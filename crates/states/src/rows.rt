@@ -1,15 +1,14 @@
 // The nodes of a draft: rows added, and latches fed.
-ghost use Rattle.std.specs.Prelude.{◌≡◌, ◌+◌, ◌<◌, length, slice_set};
-ghost use Rattle.design.specs.Rows.{fed_by};
 ghost use Rattle.design.specs.Calls.{input, gate, latch, feed};
 ghost use Rattle.design.specs.Effects.{Answered};
+ghost use Rattle.states.specs.Counting.{OneNodeMore, Added};
 ghost use Rattle.states.specs.Views.{loan_of, draft_table};
 ghost use Rattle.states.specs.Typed.{node_answer, done_answer};
 
 use super::Draft;
 use super::counts::Counts;
-use super::figures::{GREATEST_DELAY, GREATEST_TIME, any_above, lacks_phase};
-use super::scan::{Role, any_other, granted, is_other, is_short};
+use super::figures::{GREATEST_DELAY, GREATEST_TIME, check_row};
+use super::scan::Role;
 use design::calls::{Gate, Input, Latch};
 use design::couplings::Coupling;
 use design::nodes::{Node, Sources};
@@ -17,23 +16,25 @@ use refusals::Refusal;
 use schedule::Schedule;
 
 impl Draft {
-    // Writes a row behind those of the granted nodes.
-    fn add(&mut self, nodes: &mut [Node], node: Node) -> u16
-        requires { (self.old.counts.nodes < self.old.counts.node_room) × (self.old.counts.nodes < length nodes.old) }
-        ensures number { result ≡ self.old.counts.nodes }
-        ensures rows { nodes.new ≡ slice_set nodes.old self.old.counts.nodes node }
-        ensures counts { (self.new.counts.nodes ≡ self.old.counts.nodes + 1) × (self.new.counts.couplings ≡ self.old.counts.couplings) × (self.new.counts.node_room ≡ self.old.counts.node_room) × (self.new.counts.coupling_room ≡ self.old.counts.coupling_room) }
+    // Writes a row behind those of the granted nodes, and answers its number; refused where a lent table has fewer rows
+    // than `counts`, which count one node more.
+    fn add(
+        &mut self,
+        counts: Counts,
+        nodes: &mut [Node],
+        couplings: &[Coupling],
+        node: Node,
+    ) -> Result<u16, Refusal>
+        requires { OneNodeMore self.old.counts (Ok counts) }
+        ensures { Added self.old.counts nodes.old couplings.now node counts self.new.counts nodes.new result }
     {
-        let counts = self.counts;
-        let k = counts.nodes;
+        if counts.is_short(nodes, couplings) {
+            return Err(Refusal::Short);
+        }
+        let k = self.counts.nodes;
         nodes[k] = node;
-        self.counts = Counts {
-            nodes: k + 1,
-            couplings: counts.couplings,
-            node_room: counts.node_room,
-            coupling_room: counts.coupling_room,
-        };
-        k as u16
+        self.counts = counts;
+        Ok(k as u16)
     }
 
     // Adds an input that switches from its earliest to its latest time, and answers its number.
@@ -51,30 +52,21 @@ impl Draft {
             earliest,
             latest,
         } = row;
-        let counts = self.counts;
-        if counts.nodes == counts.node_room {
-            return Err(Refusal::Full);
-        }
-        if lacks_phase(schedule, phase) {
-            return Err(Refusal::Phase);
-        }
-        if earliest > latest {
-            return Err(Refusal::Span);
-        }
-        if any_above(GREATEST_TIME, &[earliest, latest]) {
-            return Err(Refusal::Figure);
-        }
-        if is_short(counts, nodes, couplings, 1, 0) {
-            return Err(Refusal::Short);
-        }
-        Ok(self.add(
-            nodes,
-            Node::Input {
-                phase,
-                earliest,
-                latest,
-            },
-        ))
+        let counts = self.counts.with_node()?;
+        check_row(
+            schedule,
+            phase,
+            earliest,
+            latest,
+            GREATEST_TIME,
+            &[earliest, latest],
+        )?;
+        let input = Node::Input {
+            phase,
+            earliest,
+            latest,
+        };
+        self.add(counts, nodes, couplings, input)
     }
 
     // Adds a gate that is driven by 1 to 4 nodes, and answers its number.
@@ -91,44 +83,28 @@ impl Draft {
             phase,
             least,
             greatest,
-            sources,
+            sources: list,
         } = row;
-        let counts = self.counts;
-        if counts.nodes == counts.node_room {
-            return Err(Refusal::Full);
-        }
-        if lacks_phase(schedule, phase) {
-            return Err(Refusal::Phase);
-        }
-        if least > greatest {
-            return Err(Refusal::Span);
-        }
-        if any_above(GREATEST_DELAY, &[least, greatest]) {
-            return Err(Refusal::Figure);
-        }
-        let Some(gathered) = Sources::of(sources) else {
-            return Err(Refusal::Fan);
-        };
-        if any_other(
-            Role::Source,
-            granted(nodes, counts.nodes),
-            counts.nodes,
-            sources,
-        ) {
+        let counts = self.counts.with_node()?;
+        check_row(
+            schedule,
+            phase,
+            least,
+            greatest,
+            GREATEST_DELAY,
+            &[least, greatest],
+        )?;
+        let sources = Sources::try_from(list)?;
+        if self.counts.any_other(Role::Source, nodes, list) {
             return Err(Refusal::Node);
         }
-        if is_short(counts, nodes, couplings, 1, 0) {
-            return Err(Refusal::Short);
-        }
-        Ok(self.add(
-            nodes,
-            Node::Gate {
-                phase,
-                least,
-                greatest,
-                sources: gathered,
-            },
-        ))
+        let gate = Node::Gate {
+            phase,
+            least,
+            greatest,
+            sources,
+        };
+        self.add(counts, nodes, couplings, gate)
     }
 
     // Adds a latch without a source, and answers its number.
@@ -148,33 +124,24 @@ impl Draft {
             setup,
             hold,
         } = row;
-        let counts = self.counts;
-        if counts.nodes == counts.node_room {
-            return Err(Refusal::Full);
-        }
-        if lacks_phase(schedule, phase) {
-            return Err(Refusal::Phase);
-        }
-        if least > greatest {
-            return Err(Refusal::Span);
-        }
-        if any_above(GREATEST_DELAY, &[least, greatest, setup, hold]) {
-            return Err(Refusal::Figure);
-        }
-        if is_short(counts, nodes, couplings, 1, 0) {
-            return Err(Refusal::Short);
-        }
-        Ok(self.add(
-            nodes,
-            Node::Latch {
-                phase,
-                least,
-                greatest,
-                setup,
-                hold,
-                source: None,
-            },
-        ))
+        let counts = self.counts.with_node()?;
+        check_row(
+            schedule,
+            phase,
+            least,
+            greatest,
+            GREATEST_DELAY,
+            &[least, greatest, setup, hold],
+        )?;
+        let latch = Node::Latch {
+            phase,
+            least,
+            greatest,
+            setup,
+            hold,
+            source: None,
+        };
+        self.add(counts, nodes, couplings, latch)
     }
 
     // Gives a latch its source, in place of an earlier one.
@@ -189,41 +156,15 @@ impl Draft {
         ensures { Answered draft_table self.old (loan_of schedule.now nodes.old couplings.now) (feed latch source) self.new (loan_of schedule.now nodes.new couplings.now) (done_answer result) }
     {
         let counts = self.counts;
-        let rows = granted(nodes, counts.nodes);
-        if is_other(Role::Latch, rows, counts.nodes, latch)
-            || is_other(Role::Source, rows, counts.nodes, source)
+        if counts.is_other(Role::Latch, nodes, latch)
+            || counts.is_other(Role::Source, nodes, source)
         {
             return Err(Refusal::Node);
         }
-        if is_short(counts, nodes, couplings, 0, 0) {
+        if counts.is_short(nodes, couplings) {
             return Err(Refusal::Short);
         }
-        let k = usize::from(latch);
-        nodes[k] = fed(nodes[k], source);
+        nodes[usize::from(latch)].feed(source);
         Ok(())
-    }
-}
-
-// A latch with another source; any other row as it was.
-fn fed(node: Node, new: u16) -> Node
-    ensures { result ≡ fed_by new node }
-{
-    match node {
-        Node::Latch {
-            phase,
-            least,
-            greatest,
-            setup,
-            hold,
-            ..
-        } => Node::Latch {
-            phase,
-            least,
-            greatest,
-            setup,
-            hold,
-            source: Some(new),
-        },
-        other => other,
     }
 }

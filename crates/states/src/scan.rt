@@ -1,7 +1,7 @@
 // The questions that the tests ask of rows and tables.
 ghost use Rattle.std.specs.Prelude.{◌≡◌, ◌+◌, ◌≤◌, not, ◌&&◌, ◌||◌, length, take, nat_lt, slice_index_or};
 ghost use Rattle.design.specs.declared.nodes.Node.TheVariants.{Free};
-ghost use Rattle.design.specs.Rows.{least_delay, is_unfed, is_coupled, assisting_of};
+ghost use Rattle.design.specs.Rows.{least_delay, is_coupled, assisting_of};
 ghost use Rattle.design.specs.Tests.{any_unfed};
 ghost use Rattle.states.specs.Roles.{allows, other_in, any_other_in};
 
@@ -9,7 +9,7 @@ use super::counts::Counts;
 use design::couplings::Coupling;
 use design::nodes::Node;
 
-// What a call wants of a node.
+// What a call wants of a node. An enum and no closure: of a closure a contract can only say what a call of it gives.
 #[derive(Clone, Copy)]
 pub(crate) enum Role {
     Source,
@@ -21,115 +21,70 @@ impl Role {
     fn allows(self, node: &Node) -> bool
         ensures { result ≡ allows self node.now }
     {
-        match (self, node) {
-            (_, Node::Free) => false,
-            (Role::Source, _) => true,
-            (_, Node::Latch { .. }) => true,
-            (Role::Victim, Node::Gate { .. }) => true,
-            _ => false,
+        match self {
+            Role::Source => node.is_node(),
+            Role::Latch => node.is_latch(),
+            Role::Victim => node.is_victim(),
         }
     }
 }
 
-// Whether there is no node of this number, or its row, where the table has it, is not of the kind wanted.
-pub(crate) fn is_other(role: Role, nodes: &[Node], count: usize, number: u16) -> bool
-    ensures { result ≡ other_in (allows role) count nodes.now number }
-{
-    let k = usize::from(number);
-    if k >= count {
-        return true;
+impl Counts {
+    // Whether no granted node has this number, or its row, where the table has it, is not of the kind wanted.
+    pub(crate) fn is_other(self, role: Role, nodes: &[Node], number: u16) -> bool
+        ensures { result ≡ other_in (allows role) self.nodes nodes.now number }
+    {
+        let k = usize::from(number);
+        k >= self.nodes || nodes.get(k).is_some_and(|node| !role.allows(node))
     }
-    if k >= nodes.len() {
-        return false;
-    }
-    !role.allows(&nodes[k])
-}
 
-pub(crate) fn any_other(role: Role, nodes: &[Node], count: usize, numbers: &[u16]) -> bool
-    ensures { result ≡ any_other_in (allows role) count nodes.now numbers.now }
-{
-    for number in numbers {
-        if is_other(role, nodes, count, *number) {
-            return true;
-        }
+    pub(crate) fn any_other(self, role: Role, nodes: &[Node], numbers: &[u16]) -> bool
+        ensures { result ≡ any_other_in (allows role) self.nodes nodes.now numbers.now }
+    {
+        numbers
+            .iter()
+            .any(|number| self.is_other(role, nodes, *number))
     }
-    false
 }
 
 // The granted rows that a table has.
 pub(crate) fn granted<T>(rows: &[T], count: usize) -> &[T]
     ensures { result.now ≡ take count rows.now }
 {
-    let count = count.min(rows.len());
-    &rows[..count]
-}
-
-fn is_unfed(node: &Node) -> bool
-    ensures { result ≡ is_unfed node.now }
-{
-    match node {
-        Node::Latch { source: None, .. } => true,
-        _ => false,
-    }
+    rows.get(..count).unwrap_or(rows)
 }
 
 pub(crate) fn any_unfed(nodes: &[Node]) -> bool
     ensures { result ≡ any_unfed nodes.now }
 {
-    for node in nodes {
-        if is_unfed(node) {
-            return true;
-        }
-    }
-    false
+    nodes.iter().any(|node| node.is_unfed())
 }
 
-// What the couplings say of a victim: whether it has this aggressor, and the sum of its assisting amounts.
-pub(crate) fn met(couplings: &[Coupling], victim: u16, aggressor: u16) -> (bool, u64)
+// Whether one of the couplings is of this victim with this aggressor.
+pub(crate) fn is_coupled(couplings: &[Coupling], victim: u16, aggressor: u16) -> bool
+    ensures { result ≡ is_coupled couplings.now victim aggressor }
+{
+    couplings.iter().any(|coupling| coupling.victim == victim && coupling.aggressor == aggressor)
+}
+
+// The sum of the assisting amounts of a victim.
+pub(crate) fn assisting_of(couplings: &[Coupling], victim: u16) -> u64
     requires { length couplings.now ≤ 1024 }
-    ensures value { (result.0 ≡ is_coupled couplings.now victim aggressor) × (result.1 ≡ assisting_of couplings.now victim) }
-    ensures small { result.1 ≤ 4398046510080 }
+    ensures value { result ≡ assisting_of couplings.now victim }
+    ensures small { result ≤ 4398046510080 }
 {
-    let mut coupled = false;
-    let mut assisting = 0;
-    for coupling in couplings {
-        if coupling.victim == victim {
-            assisting += u64::from(coupling.assisting);
-            if coupling.aggressor == aggressor {
-                coupled = true;
-            }
-        }
-    }
-    (coupled, assisting)
-}
-
-pub(crate) fn least_delay(node: &Node) -> u32
-    ensures { result ≡ least_delay node.now }
-{
-    match *node {
-        Node::Gate { least, .. } | Node::Latch { least, .. } => least,
-        _ => 0,
-    }
+    couplings
+        .iter()
+        .filter(|coupling| coupling.victim == victim)
+        .map(|coupling| u64::from(coupling.assisting))
+        .sum()
 }
 
 // Whether an amount exceeds the least delay of a node whose row the table has.
 pub(crate) fn exceeds(nodes: &[Node], number: u16, amount: u64) -> bool
     ensures { result ≡ (nat_lt number (length nodes.now) && nat_lt (least_delay (slice_index_or nodes.now number Free)) amount) }
 {
-    let k = usize::from(number);
-    k < nodes.len() && u64::from(least_delay(&nodes[k])) < amount
-}
-
-// Whether a lent table has fewer rows than are granted and added.
-pub(crate) fn is_short(
-    counts: Counts,
-    nodes: &[Node],
-    couplings: &[Coupling],
-    more_nodes: usize,
-    more_couplings: usize,
-) -> bool
-    requires { (more_nodes ≤ 1) × (more_couplings ≤ 1) }
-    ensures { result ≡ (nat_lt (length nodes.now) (counts.nodes + more_nodes) || nat_lt (length couplings.now) (counts.couplings + more_couplings)) }
-{
-    nodes.len() < counts.nodes + more_nodes || couplings.len() < counts.couplings + more_couplings
+    nodes
+        .get(usize::from(number))
+        .is_some_and(|node| u64::from(node.least_delay()) < amount)
 }

@@ -1,13 +1,15 @@
 // From a draft to a sealed table.
-ghost use Rattle.states.specs.Views.{loan_of};
-ghost use Rattle.states.specs.Typed.{SealedFrom};
+ghost use Rattle.design.specs.Calls.{seal};
+ghost use Rattle.states.specs.Views.{loan_of, draft_table, sealed_table};
+ghost use Rattle.states.specs.Typed.{Changed};
 
-use super::scan::{any_unfed, granted, is_short};
-use super::{Draft, Sealed, StillDraft};
+use super::scan::{any_unfed, granted};
+use super::{Draft, Refused, Sealed};
 use design::couplings::Coupling;
 use design::nodes::Node;
 use refusals::Refusal;
 use schedule::Schedule;
+use std::marker::PhantomData;
 
 impl Draft {
     // Seals a draft whose latches are all fed.
@@ -16,22 +18,25 @@ impl Draft {
         schedule: &Schedule,
         nodes: &[Node],
         couplings: &[Coupling],
-    ) -> Result<Sealed, StillDraft>
-        ensures { SealedFrom self (loan_of schedule.now nodes.now couplings.now) result }
+    ) -> Result<Sealed, Refused<Draft>>
+        ensures { Changed draft_table sealed_table self (loan_of schedule.now nodes.now couplings.now) seal result }
     {
         let counts = self.counts;
         if any_unfed(granted(nodes, counts.nodes)) {
-            return Err(StillDraft {
-                draft: self,
+            return Err(Refused {
+                book: self,
                 refusal: Refusal::Unfed,
             });
         }
-        if is_short(counts, nodes, couplings, 0, 0) {
-            return Err(StillDraft {
-                draft: self,
+        if counts.is_short(nodes, couplings) {
+            return Err(Refused {
+                book: self,
                 refusal: Refusal::Short,
             });
         }
-        Ok(Sealed { counts })
+        Ok(Sealed {
+            counts,
+            stage: PhantomData,
+        })
     }
 }
