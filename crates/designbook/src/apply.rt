@@ -1,47 +1,20 @@
 // A call put to a book in whichever state it is.
 ghost use Rattle.std.specs.Prelude.{◌≡◌};
-ghost use Rattle.design.specs.Table.{is_open};
+ghost use Rattle.design.specs.Table.{is_open, loan_in, SameTables};
 ghost use Rattle.design.specs.Calls.{asked};
 ghost use Rattle.design.specs.Effects.{Answered};
 ghost use Rattle.states.specs.Views.{loan_of};
-ghost use Rattle.states.specs.Typed.{node_answer, coupling_answer, done_answer};
 ghost use Rattle.designbook.specs.Views.{book_table, state_of, counts_of};
 
 use super::Book;
 use design::calls::{Answer, Call};
 use design::couplings::Coupling;
 use design::nodes::Node;
+use design::tables::Tables;
 use refusals::Refusal;
 use schedule::Schedule;
 use states::counts::Counts;
 use states::{Draft, Sealed};
-
-fn node_answer(answer: Result<u16, Refusal>) -> Result<Answer, Refusal>
-    ensures { result ≡ node_answer answer }
-{
-    match answer {
-        Ok(number) => Ok(Answer::Node(number)),
-        Err(refusal) => Err(refusal),
-    }
-}
-
-fn coupling_answer(answer: Result<u16, Refusal>) -> Result<Answer, Refusal>
-    ensures { result ≡ coupling_answer answer }
-{
-    match answer {
-        Ok(number) => Ok(Answer::Coupling(number)),
-        Err(refusal) => Err(refusal),
-    }
-}
-
-fn done_answer(answer: Result<(), Refusal>) -> Result<Answer, Refusal>
-    ensures { result ≡ done_answer answer }
-{
-    match answer {
-        Ok(()) => Ok(Answer::Done),
-        Err(refusal) => Err(refusal),
-    }
-}
 
 fn on_unopened(
     schedule: &mut Schedule,
@@ -61,7 +34,7 @@ fn on_unopened(
 }
 
 fn on_draft(
-    draft: Draft,
+    mut draft: Draft,
     schedule: &mut Schedule,
     nodes: &mut [Node],
     couplings: &mut [Coupling],
@@ -69,35 +42,46 @@ fn on_draft(
 ) -> (Book, Result<Answer, Refusal>)
     ensures { Answered book_table (Book.Draft draft) (loan_of schedule.old nodes.old couplings.old) (asked call.now) result.0 (loan_of schedule.new nodes.new couplings.new) result.1 }
 {
-    let mut draft = draft;
     match *call {
         Call::Input(row) => {
-            let result = draft.input(schedule, nodes, couplings, row);
-            (Book::Draft(draft), node_answer(result))
+            let answer = draft
+                .input(schedule, nodes, couplings, row)
+                .map(Answer::Node);
+            (Book::Draft(draft), answer)
         }
         Call::Gate(row) => {
-            let result = draft.gate(schedule, nodes, couplings, row);
-            (Book::Draft(draft), node_answer(result))
+            let answer = draft
+                .gate(schedule, nodes, couplings, row)
+                .map(Answer::Node);
+            (Book::Draft(draft), answer)
         }
         Call::Latch(row) => {
-            let result = draft.latch(schedule, nodes, couplings, row);
-            (Book::Draft(draft), node_answer(result))
+            let answer = draft
+                .latch(schedule, nodes, couplings, row)
+                .map(Answer::Node);
+            (Book::Draft(draft), answer)
         }
         Call::Feed { latch, source } => {
-            let result = draft.feed(schedule, nodes, couplings, latch, source);
-            (Book::Draft(draft), done_answer(result))
+            let answer = draft
+                .feed(schedule, nodes, couplings, latch, source)
+                .map(|()| Answer::Done);
+            (Book::Draft(draft), answer)
         }
         Call::Couple(coupling) => {
-            let result = draft.couple(schedule, nodes, couplings, coupling);
-            (Book::Draft(draft), coupling_answer(result))
+            let answer = draft
+                .couple(schedule, nodes, couplings, coupling)
+                .map(Answer::Coupling);
+            (Book::Draft(draft), answer)
         }
         Call::Seal => match draft.seal(schedule, nodes, couplings) {
             Ok(sealed) => (Book::Sealed(sealed), Ok(Answer::Done)),
-            Err(still) => (Book::Draft(still.draft), Err(still.refusal)),
+            Err(back) => (Book::Draft(back.book), Err(back.refusal)),
         },
         Call::Retime { figures } => {
-            let result = draft.retime(schedule, nodes, couplings, &figures);
-            (Book::Draft(draft), done_answer(result))
+            let answer = draft
+                .retime(schedule, nodes, couplings, &figures)
+                .map(|()| Answer::Done);
+            (Book::Draft(draft), answer)
         }
         _ => (Book::Draft(draft), Err(Refusal::Order)),
     }
@@ -115,11 +99,13 @@ fn on_sealed(
     match call {
         Call::Reopen => match sealed.reopen(schedule, nodes, couplings) {
             Ok(draft) => (Book::Draft(draft), Ok(Answer::Done)),
-            Err(still) => (Book::Sealed(still.sealed), Err(still.refusal)),
+            Err(back) => (Book::Sealed(back.book), Err(back.refusal)),
         },
         Call::Retime { figures } => {
-            let result = sealed.retime(schedule, nodes, couplings, figures);
-            (Book::Sealed(sealed), done_answer(result))
+            let answer = sealed
+                .retime(schedule, nodes, couplings, figures)
+                .map(|()| Answer::Done);
+            (Book::Sealed(sealed), answer)
         }
         _ => (Book::Sealed(sealed), Err(Refusal::Order)),
     }
@@ -129,10 +115,7 @@ impl Book {
     pub fn is_open(&self) -> bool
         ensures { result ≡ is_open (state_of self.now) }
     {
-        match self {
-            Book::Unopened => false,
-            _ => true,
-        }
+        !matches!(self, Book::Unopened)
     }
 
     // How many rows are granted, once the book is open.
@@ -146,8 +129,10 @@ impl Book {
         }
     }
 
-    // Makes a call; one that the state does not take is refused.
-    pub fn apply(
+    // Makes a call on a schedule and tables that are lent one by one, as to the functions above: `run` lends a part of each
+    // table, and through a loan a call can pass on a reference whole, but no part of it. The state is taken out of the book
+    // and put back, since `seal` and `reopen` take it by value.
+    pub(crate) fn make(
         &mut self,
         schedule: &mut Schedule,
         nodes: &mut [Node],
@@ -163,5 +148,13 @@ impl Book {
         };
         *self = book;
         answer
+    }
+
+    // Makes a call; one that the state does not take is refused.
+    pub fn apply(&mut self, tables: &mut Tables<'_>, call: &Call<'_>) -> Result<Answer, Refusal>
+        ensures answer { Answered book_table self.old (loan_in tables.old) (asked call.now) self.new (loan_in tables.new) result }
+        ensures same_tables { SameTables tables.old tables.new }
+    {
+        self.make(tables.schedule, tables.nodes, tables.couplings, call)
     }
 }
