@@ -1,10 +1,8 @@
 -- The text of a table whose rows are the first of those lent: where it is refused, and where it is written.
 use Rattle.std.proofs.Common.{◌≡◌, ℕ, zero, suc, ◌+◌, ◌<◌, ◌≤◌, Bool, true, false, ◌||◌, ltb, ◌⊎◌, List, [], ◌∷◌, ◌++◌, map, length, take, drop, Ok, Err, sym, refl, ap, ◌∙◌, subst, arith}
-use Rattle.std.proofs.lemmas.List.{nil_from_length}
 use Rattle.std.proofs.lemmas.Bool.Decides.{nat_tests}
 use Rattle.refusals.specs.declared.Refusal.TheVariants.{Short}
 use Rattle.schedule.specs.Clock.{Clock}
-use Rattle.schedule.specs.Made.{shown}
 use Rattle.frames.specs.Frames.{Content}
 use Rattle.design.specs.declared.nodes.Node.{Node}
 use Rattle.design.specs.declared.nodes.Node.TheVariants.{Free}
@@ -18,7 +16,8 @@ use Rattle.states.proofs.Seen.{short_seen}
 use Rattle.loading.specs.Writing.{joined, schedule_frame, node_frame, feed_frames, couple_frame, frames_of, lines_for, text_of}
 use Rattle.loading.specs.Rebuilding.{Rebuilds}
 use Rattle.loading.proofs.Rebuild.{stands_rebuild}
-use Rattle.listing.specs.Appending.{Appends}
+use Rattle.listing.specs.declared.lines.Listing.{Listing}
+use Rattle.listing.specs.Appending.{greatest_end, end_with, Appends}
 use Rattle.listing.specs.Listed.{WrittenTo, RebuildsSoFar}
 
 -- the first rows of a table that has as many
@@ -27,20 +26,19 @@ first_taken d zero xs h = refl
 first_taken d (suc n) [] h = absurd (omega arith)
 first_taken d (suc n) (x ∷ xs) h = ap (λ l. x ∷ l) (first_taken d n xs (omega arith))
 
+-- the first rows of both lent tables, as many as are granted
+pub record Granted (n : Counts) (loan : Loan) (xs : List Node) (ks : List Coupling) : Type 0 where
+  pub has_nodes : n.nodes ≤ length loan.nodes
+  pub nodes : xs ≡ take n.nodes loan.nodes
+  pub has_couplings : n.couplings ≤ length loan.couplings
+  pub couplings : ks ≡ take n.couplings loan.couplings
+
 -- the frames of a clock, of nodes and of couplings
 abbrev frames_for : Clock → List Node → List Coupling → List Content
 frames_for c xs ks = schedule_frame c ∷ (joined (map node_frame xs) ++ (feed_frames 0 xs ++ map couple_frame ks))
 
--- the frames of the granted rows are those of the table
-frames-granted : (n : Counts) (loan : Loan) → n.nodes ≤ length loan.nodes → n.couplings ≤ length loan.couplings
-    → frames_for (shown loan.schedule) (take n.nodes loan.nodes) (take n.couplings loan.couplings) ≡ frames_of (table_of draft n loan)
-frames-granted n loan nodes couplings =
-    let clock = shown loan.schedule in
-    ap (λ xs. frames_for clock xs (take n.couplings loan.couplings)) (sym (first_taken Free n.nodes loan.nodes nodes))
-    ∙ ap (frames_for clock (first Free n.nodes loan.nodes)) (sym (first_taken no_coupling n.couplings loan.couplings couplings))
-
 -- a table too short for the rows that are granted
-short_true : (a b x y : ℕ) (rest : Bool) → (x < a) ⊎ ((a ≤ x) × (y < b)) → ((ltb x (a + 0) || ltb y (b + 0)) || rest) ≡ true
+short_true : (a b x y : ℕ) (rest : Bool) → (x < a) ⊎ (y < b) → ((ltb x (a + 0) || ltb y (b + 0)) || rest) ≡ true
 short_true a b x y rest h = grind (arith, nat_tests)
 
 -- a buffer too short for the text
@@ -56,47 +54,49 @@ module _ (n : Counts) (loan : Loan) where
   abbrev table : Table
   table = table_of draft n loan
 
-  -- the frames that are written for it
-  abbrev frames : List Content
-  frames = frames_for (shown loan.schedule) (take n.nodes loan.nodes) (take n.couplings loan.couplings)
-
   -- refused for want of rows
-  pub refused_short : (old : List ℕ) → (length loan.nodes < n.nodes) ⊎ ((n.nodes ≤ length loan.nodes) × (length loan.couplings < n.couplings))
-      → WrittenTo (lent_in loan) (table_of draft n loan) old old (Err Short)
+  pub refused_short : (old : List ℕ) → (length loan.nodes < n.nodes) ⊎ (length loan.couplings < n.couplings) → WrittenTo (lent_in loan) (table_of draft n loan) old old (Err Short)
   refused_short old h = (
     ap (λ b. b || ltb (length old) (length (text_of table))) (short_seen draft n loan 0 0) ∙ short_true n.nodes n.couplings (length loan.nodes) (length loan.couplings) (ltb (length old) (length (text_of table))) h,
     refl,
     refl,
   )
 
-  -- refused for want of bytes, after a pass over none
-  pub refused_long : (old none : List ℕ) (size : ℕ) → n.nodes ≤ length loan.nodes → n.couplings ≤ length loan.couplings → length none ≡ 0
-      → Appends frames 0 [] size none → length (none ++ old) < size
-      → WrittenTo (lent_in loan) (table_of draft n loan) old (none ++ old) (Err Short)
-  refused_long old none size nodes couplings nil counted long =
-      let bare : none ++ old ≡ old = ap (λ l. l ++ old) (nil_from_length none nil) in
-      let text = ap (λ fs. length (lines_for fs)) (frames-granted n loan nodes couplings) in (
-        long_true _ (length old) (length (text_of table)) (omega (arith, counted.0, ap length bare)),
-        refl,
-        bare,
-      )
+  module _ {xs : List Node} {ks : List Coupling} (rows : Granted n loan xs ks) where
+    -- the frames that are written
+    abbrev frames : List Content
+    frames = frames_for loan.schedule xs ks
 
-  -- written, after a pass over no bytes
-  pub written_text : (old none new : List ℕ) (size end : ℕ) → n.nodes ≤ length loan.nodes → n.couplings ≤ length loan.couplings → length none ≡ 0
-      → Appends frames 0 [] size none → size ≤ length (none ++ old)
-      → Appends frames 0 (none ++ old) end new
-      → WrittenTo (lent_in loan) (table_of draft n loan) old new (Ok end)
-  written_text old none new size end nodes couplings nil counted fits put =
-      let same = frames-granted n loan nodes couplings in
-      let bare : none ++ old ≡ old = ap (λ l. l ++ old) (nil_from_length none nil) in
-      let text = ap (λ fs. length (lines_for fs)) same in
-      let at = subst (λ l. Appends frames 0 l end new) bare put in
-      let whole : length (text_of table) ≤ length old = omega (arith, counted.0, ap length bare) in (
-        ap (λ b. b || ltb (length old) (length (text_of table))) (short_seen draft n loan 0 0)
-            ∙ fit_false n.nodes n.couplings (length loan.nodes) (length loan.couplings) (length old) (length (text_of table)) nodes couplings whole,
-        omega (arith, at.0),
-        at.1 (omega (arith, at.0)) ∙ ap (λ fs. lines_for fs ++ drop end old) same,
-      )
+    -- they are those of the table
+    frames_are : frames ≡ frames_of table
+    frames_are =
+        ap (λ xs. frames_for loan.schedule xs ks) (rows.nodes ∙ sym (first_taken Free n.nodes loan.nodes rows.has_nodes))
+        ∙ ap (frames_for loan.schedule (first Free n.nodes loan.nodes)) (rows.couplings ∙ sym (first_taken no_coupling n.couplings loan.couplings rows.has_couplings))
+
+    -- refused for want of bytes, after a pass that counts them
+    pub refused_long : (old : List ℕ) (s t : Listing) → s.end ≡ 0 → Appends frames s t → length old < greatest_end → length old < t.end
+        → WrittenTo (lent_in loan) (table_of draft n loan) old old (Err Short)
+    refused_long old s t none counts low long =
+        let text = ap (λ fs. length (lines_for fs)) frames_are in
+        let counted = counts.counted in
+        (long_true _ (length old) (length (text_of table)) (omega arith), refl, refl)
+
+    -- written, after a pass that counts the bytes
+    pub written_text : (old : List ℕ) (s t u v : Listing) → s.end ≡ 0 → Appends frames s t → length old < greatest_end → t.end ≤ length old
+        → u.end ≡ 0 → u.out.now ≡ old → Appends frames u v
+        → WrittenTo (lent_in loan) (table_of draft n loan) old v.out.now (Ok v.end)
+    written_text old s t u v none counts low fits begun same puts =
+        let text = ap (λ fs. length (lines_for fs)) frames_are in
+        let counted = counts.counted in
+        let put = puts.counted in
+        let whole : length (text_of table) ≤ length old = omega arith in
+        let end : v.end ≡ length (text_of table) = omega arith in
+        let at : end_with frames u ≡ v.end = omega arith in (
+          ap (λ b. b || ltb (length old) (length (text_of table))) (short_seen draft n loan 0 0)
+              ∙ fit_false n.nodes n.couplings (length loan.nodes) (length loan.couplings) (length old) (length (text_of table)) rows.has_nodes rows.has_couplings whole,
+          end,
+          puts.written (omega arith) (omega (arith, ap length same)) ∙ rw (at, begun, same) (ap (λ fs. lines_for fs ++ drop v.end old) frames_are),
+        )
 
 -- a table that comes from calls on a newly opened book is rebuilt by its text
 pub rebuilds_so_far : (t : Table) → RebuildsSoFar t

@@ -1,2 +1,3 @@
+-- The definitions of this crate, in reading order.
 pub mod Appending
 pub mod Listed

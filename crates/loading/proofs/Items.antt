@@ -14,10 +14,6 @@ pub number_past : (w place : ℕ) (bs : List ℕ) → length bs ≤ place → nu
 number_past zero place bs h = refl
 number_past (suc w) place bs h = rw (get_or_past bs place 0 h, number_past w (place + 1) bs (omega arith)) (omega arith)
 
--- a number that fits its bytes is found again behind those before it
-pub number_at_lem : (w x : ℕ) (pre post : List ℕ) (place : ℕ) → length pre ≡ place → x < 256 ^ w → number_at w place (pre ++ (bytes_in w x ++ post)) ≡ x
-number_at_lem w x pre post place at fits = number_back w x pre post place at ∙ mod-eq_of_lt fits
-
 module _ {A : Type 0} (g : A → List ℕ) where
   -- items that are bytes make bytes
   pub bytes_joined : (xs : List A) → ((x : A) → Bytes (g x)) → Bytes (joined (map g xs))
@@ -29,20 +25,21 @@ module _ {A : Type 0} (g : A → List ℕ) where
   length-joined w [] each = omega arith
   length-joined w (x ∷ xs) each = omega (arith, length-append (g x) (joined (map g xs)), each x, length-joined w xs each)
 
-  -- the item of a number stands behind as many others
-  pub item_at : (w : ℕ) (xs : List A) (k : ℕ) (d : A) → ((x : A) → length (g x) ≡ w) → k < length xs
-      → (pre : List ℕ) × (post : List ℕ) × (joined (map g xs) ≡ pre ++ (g (get_or xs k d) ++ post)) × (length pre ≡ w * k)
-  item_at w [] k d each h = absurd (omega arith)
-  item_at w (x ∷ xs) zero d each h = ([], joined (map g xs), refl, omega arith)
-  item_at w (x ∷ xs) (suc k) d each h =
-      let r = item_at w xs k d each (omega arith) in
-      (g x ++ r.0, r.1, ap (λ bs. g x ++ bs) r.2 ∙ sym (append_assoc (g x) r.0 (g (get_or xs k d) ++ r.1)), omega (arith, length-append (g x) r.0, each x, r.3))
+  -- a number that fits its bytes, which stand in each item behind as many others, is found again in the item of a number, behind whatever stands before all items
+  module _ (v w off : ℕ) (num : A → ℕ) (pre post : A → List ℕ) (split : (x : A) → g x ≡ pre x ++ (bytes_in v (num x) ++ post x)) (wide : (x : A) → length (g x) ≡ w) (before : (x : A) → length (pre x) ≡ off) where
+    pub number_among : (front : List ℕ) (xs : List A) (k : ℕ) (d : A) (place : ℕ) → k < length xs → num (get_or xs k d) < 256 ^ v → place ≡ length front + w * k + off → number_at v place (front ++ joined (map g xs)) ≡ num (get_or xs k d)
+    number_among front [] k d place h fits e = absurd (omega arith)
+    number_among front (x ∷ xs) zero d place h fits e =
+        let rest = joined (map g xs) in
+        let parts : front ++ (g x ++ rest) ≡ (front ++ pre x) ++ (bytes_in v (num x) ++ (post x ++ rest)) = rw split (simp append_assoc) in
+        ap (number_at v place) parts ∙ number_back v (num x) (front ++ pre x) (post x ++ rest) place (omega (arith, length-append front (pre x), before x)) ∙ mod-eq_of_lt fits
+    number_among front (x ∷ xs) (suc k) d place h fits e =
+        ap (number_at v place) (sym (append_assoc front (g x) (joined (map g xs))))
+        ∙ number_among (front ++ g x) xs k d place (omega arith) fits (omega (arith, length-append front (g x), wide x))
 
 -- the sources that a gate frame lists are found again
 pub sources_back : (xs : List ℕ) → ((k : ℕ) → k < length xs → get_or xs k 0 < 65536) → sources_listed (length xs) (joined (map (bytes_in 2) xs)) ≡ xs
 sources_back xs small =
     sym
     (fill_by_all (λ k. number_at 2 (2 * k) (joined (map (bytes_in 2) xs))) xs (length xs) 0 refl
-    (λ k h.
-    let r = item_at (bytes_in 2) 2 xs k 0 (bytes_in-length 2) h in
-    sym (ap (number_at 2 (2 * k)) r.2 ∙ number_at_lem 2 (get_or xs k 0) r.0 r.1 (2 * k) r.3 (small k h))))
+    (λ k h. sym (number_among (bytes_in 2) 2 2 0 (λ x. x) (λ x. []) (λ x. []) (λ x. refl) (bytes_in-length 2) (λ x. refl) [] xs k 0 (2 * k) h (small k h) (omega arith))))

@@ -1,11 +1,11 @@
-pub mod Filled
+-- The lemmas of this crate.
 pub mod Lines
 pub mod Items
 pub mod Heard
-pub mod Opened
+pub mod Steps
+pub mod Goes
 pub mod NodeRows
 pub mod Feeds
 pub mod Couples
+pub mod Opened
 pub mod Rebuild
-pub mod Steps
-pub mod Goes

@@ -2,7 +2,6 @@
 use Rattle.std.proofs.Common.{ℕ, zero, suc, ◌/◌, ◌^◌, ◌<◌, List, [], ◌∷◌, ◌++◌, mod-lt, arith}
 use Rattle.text.proofs.Spelled.{Bytes}
 use Rattle.frames.specs.declared.kinds.Kind.{Kind}
-use Rattle.frames.specs.declared.kinds.Kind.TheVariants.{Schedule, Input, Gate, Latch, Feed, Couple, Verify, Seal, Reopen}
 use Rattle.frames.specs.Kinds.{byte_of, widths}
 use Rattle.frames.specs.Frames.{Content, bytes_in, join, encode}
 
@@ -24,15 +23,7 @@ bytes_join (w ∷ ws) (x ∷ xs) = bytes_append (bytes_in w x) (join ws xs) (byt
 
 -- the first byte of each kind is one
 byte_kind : (k : Kind) → byte_of k < 256
-byte_kind Schedule = omega arith
-byte_kind Input = omega arith
-byte_kind Gate = omega arith
-byte_kind Latch = omega arith
-byte_kind Feed = omega arith
-byte_kind Couple = omega arith
-byte_kind Verify = omega arith
-byte_kind Seal = omega arith
-byte_kind Reopen = omega arith
+byte_kind k = grind arith
 
 -- a frame in bytes is bytes, where what it lists is
 pub bytes_encode : (f : Content) → Bytes f.listed → Bytes (encode f)

@@ -9,7 +9,7 @@ use Rattle.frames.specs.declared.kinds.Kind.TheVariants.{Schedule, Input, Gate, 
 use Rattle.frames.specs.Frames.{Content, number_at}
 use Rattle.design.specs.declared.calls.Call.{Call}
 use Rattle.design.specs.Calls.{Ask, open_with, input, gate, latch, feed, couple, seal, reopen, retime, asked}
-use Rattle.loading.specs.Clocks.{clock_in}
+use Rattle.reading.specs.Clocks.{clock_in}
 
 -- the number in a fixed field of a frame
 abbrev pub field : Content → ℕ → ℕ

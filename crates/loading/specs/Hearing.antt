@@ -1,9 +1,9 @@
 -- What a line of a text does to a table, and the answer: digits first, then the frame, then the book.
-use Rattle.std.specs.Prelude.{ℕ, cond, List, Some, None, Err, Option, Result}
+use Rattle.std.specs.Prelude.{ℕ, List, Some, None, Ok, Err, Option, Result}
 use Rattle.refusals.specs.declared.Refusal.{Refusal}
-use Rattle.refusals.specs.declared.Refusal.TheVariants.{Digits, Frame, Order}
-use Rattle.text.specs.Digits.{is_hex, bytes_of}
-use Rattle.frames.specs.Frames.{Content, frame_of}
+use Rattle.refusals.specs.declared.Refusal.TheVariants.{Order}
+use Rattle.frames.specs.Frames.{Content}
+use Rattle.reading.specs.Line.{line_frame}
 use Rattle.design.specs.declared.calls.Answer.{Answer}
 use Rattle.design.specs.Table.{Table, Lent, is_open}
 use Rattle.design.specs.Calls.{Ask}
@@ -25,11 +25,11 @@ abbrev pub called : Lent → Table → Option Ask → Outcome
 called l t None = refused t Order
 called l t (Some c) = record { answer = answer_to (refusal l t c) (given t c); table = step l t c }
 
--- a frame put to the book; bytes that are none are refused
-abbrev pub framed : Lent → Table → Option Content → Outcome
-framed l t None = refused t Frame
-framed l t (Some f) = called l t (asks (is_open t.state) f)
+-- a frame put to the book; where a line has none, that is the answer
+abbrev pub framed : Lent → Table → Result Content Refusal → Outcome
+framed l t (Ok f) = called l t (asks (is_open t.state) f)
+framed l t (Err why) = refused t why
 
--- a line put to the book; one that fails the test of digits is refused
+-- a line put to the book
 abbrev pub heard : Lent → Table → List ℕ → Outcome
-heard l t line = cond (is_hex line) (framed l t (frame_of (bytes_of line))) (refused t Digits)
+heard l t line = framed l t (line_frame line)

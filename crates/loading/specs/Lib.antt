@@ -1,4 +1,4 @@
-pub mod Clocks
+-- The definitions of this crate, in reading order.
 pub mod Asking
 pub mod Hearing
 pub mod Loading

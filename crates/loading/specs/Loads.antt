@@ -2,7 +2,6 @@
 use Rattle.std.specs.Prelude.{◌≡◌, ℕ, List, Ok, Err, Result}
 use Rattle.refusals.specs.declared.Refusal.{Refusal}
 use Rattle.refusals.specs.declared.Fault.{Fault}
-use Rattle.schedule.specs.Made.{shown}
 use Rattle.design.specs.declared.calls.Answer.{Answer}
 use Rattle.design.specs.Table.{Loan, lent_in}
 use Rattle.design.specs.Effects.{Beyond}
@@ -28,7 +27,7 @@ NoneGranted (Err fault) = fault.line ≡ 1
 -- A text loaded: the book and the tables say what its lines make up to the first that is refused, and rows past the granted ones are as they were. Where no line was granted, so is everything.
 abbrev pub LoadedBy : Loan → List ℕ → Loan → Book → Result ℕ Fault → Type 0
 LoadedBy loan text loan' b r =
-    (r ≡ (loaded (lent_in loan) (shown loan.schedule) text).result)
-    × (book_table b loan' ≡ (loaded (lent_in loan) (shown loan.schedule) text).table)
+    (r ≡ (loaded (lent_in loan) loan.schedule text).result)
+    × (book_table b loan' ≡ (loaded (lent_in loan) loan.schedule text).table)
     × Beyond (book_table b loan') loan loan'
     × (NoneGranted r → (b ≡ Unopened) × (loan' ≡ loan))

@@ -3,10 +3,10 @@ ghost use Rattle.std.specs.Prelude.{◌≡◌, take};
 ghost use Rattle.frames.specs.Contents.{content_of};
 ghost use Rattle.loading.specs.Asking.{sources_listed, AskedBy};
 
-use super::figures::{figures_of, source_at};
 use design::calls::{Call, Gate, Input, Latch};
 use design::couplings::Coupling;
 use frames::Frame;
+use reading::listed::{figures_of, source_at};
 use refusals::Refusal;
 
 // How many sources a frame can list at most: its count is one byte.
@@ -16,6 +16,7 @@ pub(crate) const MOST_LISTED: usize = 255;
 fn list_sources(count: u8, bytes: &[u8], room: &mut [u16; MOST_LISTED])
     ensures { take count room.new ≡ sources_listed count bytes.now }
 {
+    // By index: only as many places are read as the frame counts, not all 255.
     for k in 0..usize::from(count) {
         room[k] = source_at(bytes, 2 * k);
     }

@@ -2,6 +2,5 @@
 #![tactic(auto)]
 
 mod calls;
-mod figures;
 pub mod hear;
 pub mod load;

@@ -1,13 +1,13 @@
-use Rattle.std.proofs.Common.{◌≡◌, length}
-use Rattle.text.specs.Lines.{lines_of, left}
-use Rattle.states.specs.Views.{loan_of}
+-- What the loops of `load` keep.
+use Rattle.std.proofs.Common.{◌≡◌}
+use Rattle.text.specs.Lines.{left}
+use Rattle.design.specs.Table.{loan_in, SameTables}
 use Rattle.loading.proofs.Goes.{Going}
 use Rattle.loading.proofs.load.load.Given as goal
 
 abbrev pub invariant-loop-line : goal.invariant-loop-line
-invariant-loop-line l =
-    (l.granted ≡ l.lines.count)
-    × Going (loan_of l.initial.schedule l.initial.nodes l.initial.couplings) l.text l.granted l.book (loan_of l.schedule l.nodes l.couplings) (left l.lines)
-
-abbrev pub decreases-loop-line : goal.decreases-loop-line
-decreases-loop-line l = length (lines_of (left l.lines))
+invariant-loop-line l = record {
+  granted : l.granted ≡ l.line-iterator.count;
+  going : Going (loan_in l.initial.tables) l.text l.granted l.book (loan_in l.tables) (left l.line-iterator);
+  same : SameTables l.initial.tables l.tables;
+}
