@@ -1,11 +1,13 @@
 -- What is printed for a line, and for a whole text.
-use Rattle.std.specs.Prelude.{◌≡◌, ℕ, ◌<◌, ◌≤◌, cond, List, [], ◌∷◌, ◌++◌, length, take, drop, Ok, Err, Result, nat_le}
+use Rattle.std.specs.Prelude.{◌≡◌, ℕ, ◌<◌, ◌≤◌, List, [], ◌∷◌, ◌++◌, length, take, drop, Ok, Err, Result}
 use Rattle.refusals.specs.declared.Refusal.{Refusal}
 use Rattle.refusals.specs.declared.Refusal.TheVariants.{Full, Short}
 use Rattle.refusals.specs.Numbers.{number_of}
 use Rattle.schedule.specs.Clock.{Clock}
+use Rattle.text.specs.declared.lines.Lines.{Lines}
 use Rattle.text.specs.Lines.{lines_of}
 use Rattle.text.specs.Spelling.{line_for}
+use Rattle.text.specs.Admission.{greatest_text, printed_within, Reads}
 use Rattle.frames.specs.Frames.{bytes_in}
 use Rattle.design.specs.declared.calls.Answer.{Answer}
 use Rattle.design.specs.declared.calls.Answer.TheVariants.{Done, Node, Coupling}
@@ -31,21 +33,17 @@ abbrev pub output : Lent → Table → List (List ℕ) → List ℕ
 output l t [] = []
 output l t (line ∷ others) = reply l t line ++ output l (heard l t line).table others
 
--- how many bytes a text may have
-abbrev pub greatest_text : ℕ
-greatest_text = 65536
-
 -- how many bytes the longest reply has
 abbrev pub longest_reply : ℕ
 longest_reply = 7
 
 -- what is printed for a text, from a book on that is not opened; a text that is too long is refused whole
 abbrev pub output_of : Lent → Clock → List ℕ → List ℕ
-output_of l clock text = cond (nat_le (length text) greatest_text) (output l (empty clock) (lines_of text)) (line_for (number_of Full ∷ []))
+output_of l clock text = printed_within (λ t. output l (empty clock) (lines_of t)) text
 
--- admitting a text: its output is that of its lines, or of the refusal
-abbrev pub Admitted : List ℕ → Result Unit Refusal → Type 0
-Admitted text (Ok _) = (length text ≤ greatest_text) × ((l : Lent) (clock : Clock) → output_of l clock text ≡ output l (empty clock) (lines_of text))
+-- admitting a text hands out its reader: its output is that of its lines, or of the refusal
+abbrev pub Admitted : List ℕ → Result Lines Refusal → Type 0
+Admitted text (Ok lines) = (length text ≤ greatest_text) × Reads text lines × ((l : Lent) (clock : Clock) → output_of l clock text ≡ output l (empty clock) (lines_of text))
 Admitted text (Err why) = (greatest_text < length text) × (why ≡ Full) × ((l : Lent) (clock : Clock) → output_of l clock text ≡ line_for (number_of why ∷ []))
 
 -- answering a line: the reply is written, the book and its tables do what the line says, and what is printed for the lines that follow starts from there

@@ -2,32 +2,27 @@
 #![tactic(auto)]
 
 ghost use Rattle.text.specs.Spelling.{SpelledAt};
-ghost use Rattle.states.specs.Views.{loan_of};
+ghost use Rattle.design.specs.Table.{loan_in, SameTables};
 ghost use Rattle.designsession.specs.Printing.{bytes_for, Admitted, Replied};
 
 use design::calls::Answer;
-use design::couplings::Coupling;
-use design::nodes::Node;
+use design::tables::Tables;
 use designbook::Book;
 use loading::hear::hear;
 use refusals::Refusal;
-use schedule::Schedule;
+use text::admission;
+use text::lines::Lines;
 use text::spelling::spell_line;
-
-// How many bytes a text may have.
-pub const GREATEST_TEXT: usize = 65_536;
 
 // How many bytes the longest printed line has: six digits and a line feed.
 pub const PRINTED: usize = 7;
 
-// Whether a text is short enough to be read; a longer one is refused whole.
-pub fn admit(text: &[u8]) -> Result<(), Refusal>
+// The lines of a text that is short enough to be read; a longer one is refused whole. A function of its own, whose
+// contract says what is printed for the text.
+pub fn admit(text: &[u8]) -> Result<Lines<'_>, Refusal>
     ensures { Admitted text.now result }
 {
-    if text.len() > GREATEST_TEXT {
-        return Err(Refusal::Full);
-    }
-    Ok(())
+    admission::admit(text)
 }
 
 // Writes what is printed for an answer into the first places of `out`.
@@ -40,7 +35,7 @@ fn put_answer(answer: Result<Answer, Refusal>, out: &mut [u8]) -> Result<usize, 
             let [high, low] = number.to_be_bytes();
             spell_line(&[0, high, low], out, 0)
         }
-        Err(refusal) => spell_line(&[refusal.number()], out, 0),
+        Err(refusal) => spell_line(&[refusal.into()], out, 0),
     }
 }
 
@@ -48,17 +43,15 @@ fn put_answer(answer: Result<Answer, Refusal>, out: &mut [u8]) -> Result<usize, 
 // that is.
 pub fn answer(
     book: &mut Book,
-    schedule: &mut Schedule,
-    nodes: &mut [Node],
-    couplings: &mut [Coupling],
+    tables: &mut Tables<'_>,
     line: &[u8],
     out: &mut [u8],
 ) -> Result<usize, Refusal>
-    ensures { Replied book.old (loan_of schedule.old nodes.old couplings.old) line.now out.old book.new (loan_of schedule.new nodes.new couplings.new) out.new result }
+    ensures reply { Replied book.old (loan_in tables.old) line.now out.old book.new (loan_in tables.new) out.new result }
+    ensures same_tables { SameTables tables.old tables.new }
 {
     if out.len() < PRINTED {
         return Err(Refusal::Short);
     }
-    let answer = hear(book, schedule, nodes, couplings, line);
-    put_answer(answer, out)
+    put_answer(hear(book, tables, line), out)
 }

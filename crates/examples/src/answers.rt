@@ -1,6 +1,7 @@
 // Lines put to a book and what is printed for them.
 use design::couplings::Coupling;
 use design::nodes::Node;
+use design::tables::Tables;
 use designbook::Book;
 use designsession::answer;
 use refusals::Refusal;
@@ -13,41 +14,22 @@ fn printed_lines(rt: HostRuntime) {
     let mut schedule = Schedule::blank();
     let mut nodes = [Node::Free; 1];
     let mut couplings = [Coupling::NONE; 0];
+    let mut tables = Tables {
+        schedule: &mut schedule,
+        nodes: &mut nodes,
+        couplings: &mut couplings,
+    };
     let mut book = Book::Unopened;
     let mut out = [7; 8];
-    assert_eq!(rt;
-        answer(
-            &mut book,
-            &mut schedule,
-            &mut nodes,
-            &mut couplings,
-            ONE_PHASE,
-            &mut out,
-        ),
-        Ok(3)
-    );
+    assert_eq!(rt; answer(&mut book, &mut tables, ONE_PHASE, &mut out), Ok(3));
     assert!(rt; out.starts_with(b"00\n\x07"));
     assert_eq!(rt;
-        answer(
-            &mut book,
-            &mut schedule,
-            &mut nodes,
-            &mut couplings,
-            b"02010000000000000000",
-            &mut out,
-        ),
+        answer(&mut book, &mut tables, b"02010000000000000000", &mut out),
         Ok(7)
     );
     assert!(rt; out.starts_with(b"000000\n\x07"));
     assert_eq!(rt;
-        answer(
-            &mut book,
-            &mut schedule,
-            &mut nodes,
-            &mut couplings,
-            b"02010000000000000000",
-            &mut out,
-        ),
+        answer(&mut book, &mut tables, b"02010000000000000000", &mut out),
         Ok(3)
     );
     assert!(rt; out.starts_with(b"01\n000\n\x07"));
@@ -58,17 +40,15 @@ fn no_line_is_put_without_room_for_its_answer(rt: HostRuntime) {
     let mut schedule = Schedule::blank();
     let mut nodes = [Node::Free; 1];
     let mut couplings = [Coupling::NONE; 0];
+    let mut tables = Tables {
+        schedule: &mut schedule,
+        nodes: &mut nodes,
+        couplings: &mut couplings,
+    };
     let mut book = Book::Unopened;
     let mut out = [7; 6];
     assert_eq!(rt;
-        answer(
-            &mut book,
-            &mut schedule,
-            &mut nodes,
-            &mut couplings,
-            ONE_PHASE,
-            &mut out,
-        ),
+        answer(&mut book, &mut tables, ONE_PHASE, &mut out),
         Err(Refusal::Short)
     );
     assert!(rt; out == [7; 6] && !book.is_open());

@@ -3,6 +3,7 @@ use super::clocks::{one_phase, two_phases};
 use design::calls::{Answer, Call, Gate, Input, Latch, Made};
 use design::couplings::Coupling;
 use design::nodes::Node;
+use design::tables::Tables;
 use designbook::Book;
 use designbook::run::run;
 use refusals::Refusal;
@@ -10,10 +11,7 @@ use schedule::Schedule;
 
 // What is answered to a call: the number of its refusal, or 0.
 fn number(answer: &Result<Answer, Refusal>) -> u8 {
-    match answer {
-        Ok(_) => 0,
-        Err(refusal) => refusal.number(),
-    }
+    answer.err().map_or(0, u8::from)
 }
 
 // A call with both tables lent whole.
@@ -101,17 +99,15 @@ fn each_refusal_of_a_draft(rt: HostRuntime) {
         2, 3, 4, 0, 5, 6, 0, 0, 10, 6, 0, 6, 7, 8, 0, 1, 1, 9, 14, 14, 0,
     ];
     let mut answers = [Err(Refusal::Order); 21];
-    let ran = run(
-        &mut schedule,
-        &mut nodes,
-        &mut couplings,
-        &two_phases(),
-        &calls,
-        &mut answers,
-    );
+    let mut tables = Tables {
+        schedule: &mut schedule,
+        nodes: &mut nodes,
+        couplings: &mut couplings,
+    };
+    let ran = run(&mut tables, &two_phases(), &calls, &mut answers);
     assert!(rt; ran.is_ok());
-    for k in 0..21 {
-        assert_eq!(rt; number(&answers[k]), expected[k]);
+    for (answer, expected) in answers.iter().zip(expected) {
+        assert_eq!(rt; number(answer), expected);
     }
 }
 
@@ -166,16 +162,14 @@ fn short_tables(rt: HostRuntime) {
     ];
     let expected = [0, 0, 0, 10, 0, 11, 11, 11, 11, 0, 0, 11, 0];
     let mut answers = [Err(Refusal::Order); 13];
-    let ran = run(
-        &mut schedule,
-        &mut nodes,
-        &mut couplings,
-        &two_phases(),
-        &calls,
-        &mut answers,
-    );
+    let mut tables = Tables {
+        schedule: &mut schedule,
+        nodes: &mut nodes,
+        couplings: &mut couplings,
+    };
+    let ran = run(&mut tables, &two_phases(), &calls, &mut answers);
     assert!(rt; ran.is_ok());
-    for k in 0..13 {
-        assert_eq!(rt; number(&answers[k]), expected[k]);
+    for (answer, expected) in answers.iter().zip(expected) {
+        assert_eq!(rt; number(answer), expected);
     }
 }

@@ -34,25 +34,19 @@ fn seal_hands_back_the_draft(rt: HostRuntime) -> Result<(), Fail> {
     let mut schedule = Schedule::blank();
     let mut nodes = [Node::Free; 2];
     let couplings = [Coupling::NONE; 0];
-    let Ok(opened) = Draft::open(&mut schedule, &nodes, &couplings, &two_phases()) else {
-        assert!(rt; false);
-        return Ok(());
-    };
-    let mut draft = opened;
+    let mut draft = Draft::open(&mut schedule, &nodes, &couplings, &two_phases())?;
     assert_eq!(rt;
         draft.latch(&schedule, &mut nodes, &couplings, LATCH),
         Ok(0)
     );
-    let Err(still) = draft.seal(&schedule, &nodes, &couplings) else {
-        assert!(rt; false);
-        return Ok(());
+    let Err(back) = draft.seal(&schedule, &nodes, &couplings) else {
+        return Err(Fail::new("not refused"));
     };
-    assert_eq!(rt; still.refusal, Refusal::Unfed);
-    let mut draft = still.draft;
+    assert_eq!(rt; back.refusal, Refusal::Unfed);
+    let mut draft = back.book;
     assert_eq!(rt; draft.feed(&schedule, &mut nodes, &couplings, 0, 0), Ok(()));
     let Ok(sealed) = draft.seal(&schedule, &nodes, &couplings) else {
-        assert!(rt; false);
-        return Ok(());
+        return Err(Fail::new("not sealed"));
     };
     assert!(rt; sealed.counts().nodes == 1);
     Ok(())
@@ -63,30 +57,22 @@ fn reopen_hands_back_the_sealed_table(rt: HostRuntime) -> Result<(), Fail> {
     let mut schedule = Schedule::blank();
     let mut nodes = [Node::Free; 1];
     let couplings = [Coupling::NONE; 0];
-    let Ok(opened) = Draft::open(&mut schedule, &nodes, &couplings, &two_phases()) else {
-        assert!(rt; false);
-        return Ok(());
-    };
-    let mut draft = opened;
+    let mut draft = Draft::open(&mut schedule, &nodes, &couplings, &two_phases())?;
     assert_eq!(rt;
         draft.input(&schedule, &mut nodes, &couplings, INPUT),
         Ok(0)
     );
     let Ok(sealed) = draft.seal(&schedule, &nodes, &couplings) else {
-        assert!(rt; false);
-        return Ok(());
+        return Err(Fail::new("not sealed"));
     };
     let none = [Node::Free; 0];
-    let Err(still) = sealed.reopen(&schedule, &none, &couplings) else {
-        assert!(rt; false);
-        return Ok(());
+    let Err(back) = sealed.reopen(&schedule, &none, &couplings) else {
+        return Err(Fail::new("not refused"));
     };
-    assert_eq!(rt; still.refusal, Refusal::Short);
-    let Ok(reopened) = still.sealed.reopen(&schedule, &nodes, &couplings) else {
-        assert!(rt; false);
-        return Ok(());
+    assert_eq!(rt; back.refusal, Refusal::Short);
+    let Ok(mut draft) = back.book.reopen(&schedule, &nodes, &couplings) else {
+        return Err(Fail::new("not reopened"));
     };
-    let mut draft = reopened;
     assert_eq!(rt;
         draft.input(&schedule, &mut nodes, &couplings, INPUT),
         Err(Refusal::Full)
@@ -99,11 +85,7 @@ fn feed_replaces(rt: HostRuntime) -> Result<(), Fail> {
     let mut schedule = Schedule::blank();
     let mut nodes = [Node::Free; 3];
     let couplings = [Coupling::NONE; 0];
-    let Ok(opened) = Draft::open(&mut schedule, &nodes, &couplings, &two_phases()) else {
-        assert!(rt; false);
-        return Ok(());
-    };
-    let mut draft = opened;
+    let mut draft = Draft::open(&mut schedule, &nodes, &couplings, &two_phases())?;
     assert_eq!(rt;
         draft.latch(&schedule, &mut nodes, &couplings, LATCH),
         Ok(0)
@@ -136,11 +118,7 @@ fn a_row_that_somebody_else_freed(rt: HostRuntime) -> Result<(), Fail> {
     let mut schedule = Schedule::blank();
     let mut nodes = [Node::Free; 4];
     let mut couplings = [Coupling::NONE; 1];
-    let Ok(made) = two_latches(&mut schedule, &mut nodes, &couplings) else {
-        assert!(rt; false);
-        return Ok(());
-    };
-    let mut draft = made;
+    let mut draft = two_latches(&mut schedule, &mut nodes, &couplings)?;
     nodes[1] = Node::Free;
     let gate = Gate {
         phase: 1,
@@ -176,11 +154,7 @@ fn tables_that_became_shorter(rt: HostRuntime) -> Result<(), Fail> {
     let mut schedule = Schedule::blank();
     let mut nodes = [Node::Free; 4];
     let couplings = [Coupling::NONE; 0];
-    let Ok(made) = two_latches(&mut schedule, &mut nodes, &couplings) else {
-        assert!(rt; false);
-        return Ok(());
-    };
-    let mut draft = made;
+    let mut draft = two_latches(&mut schedule, &mut nodes, &couplings)?;
     let mut few = [nodes[0]; 1];
     assert_eq!(rt;
         draft.feed(&schedule, &mut few, &couplings, 0, 1),
@@ -207,11 +181,7 @@ fn rows_past_the_granted_ones(rt: HostRuntime) -> Result<(), Fail> {
     let mut schedule = Schedule::blank();
     let mut nodes = [Node::Free; 4];
     let couplings = [Coupling::NONE; 0];
-    let Ok(made) = two_latches(&mut schedule, &mut nodes, &couplings) else {
-        assert!(rt; false);
-        return Ok(());
-    };
-    let mut draft = made;
+    let mut draft = two_latches(&mut schedule, &mut nodes, &couplings)?;
     nodes[3] = nodes[0];
     assert_eq!(rt;
         draft.feed(&schedule, &mut nodes, &couplings, 3, 0),

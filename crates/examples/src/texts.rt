@@ -1,6 +1,7 @@
 // Texts loaded into a book and written out of it.
 use design::couplings::Coupling;
 use design::nodes::Node;
+use design::tables::Tables;
 use listing::write::write;
 use loading::load::load;
 use refusals::{Layer, Refusal};
@@ -24,7 +25,12 @@ fn rewritten(text: &[u8], out: &mut [u8]) -> (Option<usize>, Result<usize, Refus
     let mut schedule = Schedule::blank();
     let mut nodes = [Node::Free; 6];
     let mut couplings = [Coupling::NONE; 3];
-    let (book, result) = load(&mut schedule, &mut nodes, &mut couplings, text);
+    let mut tables = Tables {
+        schedule: &mut schedule,
+        nodes: &mut nodes,
+        couplings: &mut couplings,
+    };
+    let (book, result) = load(&mut tables, text);
     let Some(counts) = book.counts() else {
         return (None, Err(Refusal::Order));
     };
@@ -54,19 +60,16 @@ fn faulted(text: &[u8]) -> (usize, usize, Option<Layer>, u8) {
     let mut schedule = Schedule::blank();
     let mut nodes = [Node::Free; 2];
     let mut couplings = [Coupling::NONE; 0];
-    let (book, result) = load(&mut schedule, &mut nodes, &mut couplings, text);
-    let granted = match book.counts() {
-        Some(counts) => counts.nodes,
-        None => 99,
+    let mut tables = Tables {
+        schedule: &mut schedule,
+        nodes: &mut nodes,
+        couplings: &mut couplings,
     };
+    let (book, result) = load(&mut tables, text);
+    let granted = book.counts().map_or(99, |counts| counts.nodes);
     match result {
         Ok(lines) => (granted, lines, None, 0),
-        Err(fault) => (
-            granted,
-            fault.line,
-            Some(fault.layer),
-            fault.refusal.number(),
-        ),
+        Err(fault) => (granted, fault.line, Some(fault.layer), fault.refusal.into()),
     }
 }
 
