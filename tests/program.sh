@@ -1,5 +1,5 @@
 #!/usr/bin/env bash
-# Runs the programs clockmark and designmark, as the gate built them, on what a stored input cannot show: how much they
+# Runs the programs clockmark and clockmark, as the gate built them, on what a stored input cannot show: how much they
 # read, how long a text may be, and that every line of any bytes gets one answer.
 set -u -o pipefail
 cd "$(dirname "$0")/.." || exit 1
@@ -20,7 +20,7 @@ expect() {
   echo "$name: $1: ok"
 }
 
-for name in clockmark designmark; do
+for name in clockmark clockmark; do
   program=crates/$name/out/$name
 
   : > "$work/in"

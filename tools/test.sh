@@ -24,7 +24,7 @@ case "$ok" in
     ;;
 esac
 
-for script in tests/program.sh tests/designmark.sh tests/states.sh; do
+for script in tests/program.sh tests/texts.sh tests/states.sh; do
   if ! bash "$script"; then
     echo "$script failed: the gate passed, but not what runs after it"
     exit 1

@@ -1,2 +1,3 @@
 -- The definitions of this crate, in reading order.
-pub mod Taking
+pub mod Views
+pub mod Runs

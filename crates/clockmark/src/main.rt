@@ -2,35 +2,50 @@
 #![tactic(auto)]
 
 use book::Book;
-use session::{PRINTED, admit, answer, put_number};
+use design::couplings::Coupling;
+use design::nodes::Node;
+use design::tables::Tables;
+use schedule::Schedule;
+use session::{GREATEST_TEXT, PRINTED, admit, answer};
 use std::io;
 use std::io::{BufWriter, Read, Write};
-use text::admission::GREATEST_TEXT;
+use text::spelling::spell_line;
 
-// Prints the answer to each line of a text, or one refusal of the whole text. This loop stands in each program: the two
-// answer a line from different books, and one loop for both would be handed the answer as a closure, which is no plainer.
+// How many nodes and how many couplings a text may enter.
+const NODES: usize = 256;
+
+const COUPLINGS: usize = 256;
+
+// Prints the answer to each line of a text, or one refusal of the whole text.
 fn mark<W: Write>(text: &[u8], out: &mut W) -> io::Result<()> {
     // Long enough for a printed line, so that no call below is refused as short.
     let mut room = [0; PRINTED];
     let lines = match admit(text) {
         Ok(lines) => lines,
         Err(refusal) => {
-            if let Ok(count) = put_number(refusal.into(), &mut room) {
+            if let Ok(count) = spell_line(&[refusal.into()], &mut room, 0) {
                 out.write_all(&room[..count])?;
             }
             return Ok(());
         }
     };
+    let mut schedule = Schedule::blank();
+    let mut nodes = [Node::Free; NODES];
+    let mut couplings = [Coupling::NONE; COUPLINGS];
+    let mut tables = Tables {
+        schedule: &mut schedule,
+        nodes: &mut nodes,
+        couplings: &mut couplings,
+    };
     let mut book = Book::Unopened;
     for line in lines {
-        if let Ok(count) = answer(&mut book, line.bytes, &mut room) {
+        if let Ok(count) = answer(&mut book, &mut tables, line.bytes, &mut room) {
             out.write_all(&room[..count])?;
         }
     }
     Ok(())
 }
 
-// A `main` of its own: one for both programs would be handed `mark` as a closure, and is no plainer.
 fn main(rt: HostRuntime) -> io::Result<()> {
     let mut text = Vec::new(rt.alloc());
     // One byte more than a text may have, so that a longer one is known by its length.

@@ -1,11 +1,11 @@
 // Lines put to a book and what is printed for them.
+use book::Book;
 use design::couplings::Coupling;
 use design::nodes::Node;
 use design::tables::Tables;
-use designbook::Book;
-use designsession::answer;
 use refusals::Refusal;
 use schedule::Schedule;
+use session::answer;
 
 const ONE_PHASE: &[u8] = b"010000006400000000010000000000000028";
 

@@ -1,11 +1,11 @@
 // Lists of calls and their answers: each refusal that a call can meet, in each state.
 use super::clocks::{one_phase, two_phases};
+use book::Book;
+use book::run::run;
 use design::calls::{Answer, Call, Gate, Input, Latch, Made};
 use design::couplings::Coupling;
 use design::nodes::Node;
 use design::tables::Tables;
-use designbook::Book;
-use designbook::run::run;
 use refusals::Refusal;
 use schedule::Schedule;
 

@@ -9,9 +9,9 @@ use Rattle.design.specs.Table.{Table, Lent, Loan, lent_in, is_open}
 use Rattle.design.specs.Calls.{Ask}
 use Rattle.design.specs.Effects.{Beyond}
 use Rattle.design.proofs.Growing.{Grows, Blank, step_grows, beyond_both}
-use Rattle.designbook.specs.declared.Book.{Book}
-use Rattle.designbook.specs.declared.Book.TheVariants.{Unopened}
-use Rattle.designbook.specs.Views.{book_table}
+use Rattle.book.specs.declared.Book.{Book}
+use Rattle.book.specs.declared.Book.TheVariants.{Unopened}
+use Rattle.book.specs.Views.{book_table}
 use Rattle.loading.specs.Asking.{asks}
 use Rattle.loading.specs.Hearing.{called, framed, heard}
 use Rattle.loading.specs.Loading.{load_from, loaded}

@@ -6,8 +6,8 @@ use Rattle.design.specs.declared.calls.Answer.{Answer}
 use Rattle.design.specs.Table.{Loan, lent_in, is_open}
 use Rattle.design.specs.Calls.{Ask}
 use Rattle.design.specs.Effects.{Answered}
-use Rattle.designbook.specs.declared.Book.{Book}
-use Rattle.designbook.specs.Views.{book_table, state_of}
+use Rattle.book.specs.declared.Book.{Book}
+use Rattle.book.specs.Views.{book_table, state_of}
 use Rattle.reading.specs.Line.{line_frame}
 use Rattle.loading.specs.Asking.{asks}
 use Rattle.loading.specs.Hearing.{called, heard}

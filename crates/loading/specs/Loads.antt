@@ -5,9 +5,9 @@ use Rattle.refusals.specs.declared.Fault.{Fault}
 use Rattle.design.specs.declared.calls.Answer.{Answer}
 use Rattle.design.specs.Table.{Loan, lent_in}
 use Rattle.design.specs.Effects.{Beyond}
-use Rattle.designbook.specs.declared.Book.{Book}
-use Rattle.designbook.specs.declared.Book.TheVariants.{Unopened}
-use Rattle.designbook.specs.Views.{book_table}
+use Rattle.book.specs.declared.Book.{Book}
+use Rattle.book.specs.declared.Book.TheVariants.{Unopened}
+use Rattle.book.specs.Views.{book_table}
 use Rattle.loading.specs.Hearing.{heard}
 use Rattle.loading.specs.Loading.{loaded}
 

@@ -3,9 +3,9 @@ ghost use Rattle.design.specs.Table.{loan_in, SameTables};
 ghost use Rattle.loading.specs.Loads.{Heard};
 
 use super::calls::{MOST_LISTED, call_of};
+use book::Book;
 use design::calls::Answer;
 use design::tables::Tables;
-use designbook::Book;
 use reading::line::read_line;
 use refusals::Refusal;
 use text::digits::LONGEST;

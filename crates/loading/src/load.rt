@@ -3,8 +3,8 @@ ghost use Rattle.design.specs.Table.{loan_in, SameTables};
 ghost use Rattle.loading.specs.Loads.{LoadedBy};
 
 use super::hear::hear;
+use book::Book;
 use design::tables::Tables;
-use designbook::Book;
 use refusals::Fault;
 use text::lines::Lines;
 

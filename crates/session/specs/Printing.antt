@@ -1,67 +1,65 @@
 -- What is printed for a line, and for a whole text.
-use Rattle.std.specs.Prelude.{◌≡◌, ℕ, ◌<◌, ◌≤◌, List, [], ◌∷◌, ◌++◌, length, take, drop, Some, None, Ok, Err, Option, Result}
+use Rattle.std.specs.Prelude.{◌≡◌, ℕ, ◌<◌, ◌≤◌, cond, List, [], ◌∷◌, ◌++◌, length, take, drop, Ok, Err, Result, nat_le}
 use Rattle.refusals.specs.declared.Refusal.{Refusal}
 use Rattle.refusals.specs.declared.Refusal.TheVariants.{Full, Short}
 use Rattle.refusals.specs.Numbers.{number_of}
 use Rattle.schedule.specs.Clock.{Clock}
 use Rattle.text.specs.declared.lines.Lines.{Lines}
-use Rattle.text.specs.Lines.{lines_of}
+use Rattle.text.specs.Lines.{lines_of, left}
 use Rattle.text.specs.Spelling.{line_for}
-use Rattle.text.specs.Admission.{greatest_text, printed_within, Reads}
-use Rattle.frames.specs.Frames.{Content}
-use Rattle.reading.specs.Line.{line_frame}
+use Rattle.frames.specs.Frames.{bytes_in}
+use Rattle.design.specs.declared.calls.Answer.{Answer}
+use Rattle.design.specs.declared.calls.Answer.TheVariants.{Done, Node, Coupling}
+use Rattle.design.specs.Table.{Table, Lent, Loan, lent_in, empty}
 use Rattle.book.specs.declared.Book.{Book}
-use Rattle.book.specs.Taking.{Outcome, refused, taken, clock_of}
+use Rattle.book.specs.Views.{book_table}
+use Rattle.loading.specs.Hearing.{heard}
+use Rattle.loading.specs.Loads.{Heard}
 
--- a frame is put to the book; where a line has none, the book is left alone
-abbrev pub put_to : Option Clock → Result Content Refusal → Outcome
-put_to clock (Ok f) = taken clock f
-put_to clock (Err why) = refused clock why
-
--- what a line does: its digits are tested first, then its frame, then the book takes it or not
-abbrev pub answered : Option Clock → List ℕ → Outcome
-answered clock line = put_to clock (line_frame line)
-
--- a granted line is answered with 0, a refused one with the number of its refusal
-abbrev pub number_for : Option Refusal → ℕ
-number_for None = 0
-number_for (Some why) = number_of why
-
--- a number in one byte as a printed line
-abbrev pub printed : ℕ → List ℕ
-printed n = line_for (n ∷ [])
+-- The bytes that answer a line: 0 where it is granted, and the number of a node or coupling in two bytes; else the number of the refusal.
+abbrev pub bytes_for : Result Answer Refusal → List ℕ
+bytes_for (Ok Done) = 0 ∷ []
+bytes_for (Ok (Node k)) = 0 ∷ bytes_in 2 k
+bytes_for (Ok (Coupling k)) = 0 ∷ bytes_in 2 k
+bytes_for (Err why) = number_of why ∷ []
 
 -- what is printed for a line
-abbrev pub reply : Option Clock → List ℕ → List ℕ
-reply clock line = printed (number_for (answered clock line).refusal)
+abbrev pub reply : Lent → Table → List ℕ → List ℕ
+reply l t line = line_for (bytes_for (heard l t line).answer)
 
--- what is printed for lines one after another, each put to the book as the one before it left it
-abbrev pub output : Option Clock → List (List ℕ) → List ℕ
-output clock [] = []
-output clock (line ∷ others) = reply clock line ++ output (answered clock line).clock others
+-- what is printed for lines one after another, each put to the table that the one before it leaves
+abbrev pub output : Lent → Table → List (List ℕ) → List ℕ
+output l t [] = []
+output l t (line ∷ others) = reply l t line ++ output l (heard l t line).table others
 
--- what is printed for a text, from an unopened book on; a text that is too long is refused whole
-abbrev pub output_of : List ℕ → List ℕ
-output_of text = printed_within (λ t. output None (lines_of t)) text
+-- how many bytes the longest reply has
+abbrev pub longest_reply : ℕ
+longest_reply = 7
+
+-- how many bytes a text may have
+abbrev pub greatest_text : ℕ
+greatest_text = 65536
+
+-- what is printed for a text, from a book on that is not opened; a text that is too long is refused whole
+abbrev pub output_of : Lent → Clock → List ℕ → List ℕ
+output_of l clock text = cond (nat_le (length text) greatest_text) (output l (empty clock) (lines_of text)) (line_for (number_of Full ∷ []))
+
+-- a reader that has handed out nothing of a text
+abbrev pub Reads : List ℕ → Lines → Type 0
+Reads text lines = (left lines ≡ text) × (lines.count ≡ 0)
 
 -- admitting a text hands out its reader: its output is that of its lines, or of the refusal
 abbrev pub Admitted : List ℕ → Result Lines Refusal → Type 0
-Admitted text (Ok lines) = (length text ≤ greatest_text) × Reads text lines × (output_of text ≡ output None (lines_of text))
-Admitted text (Err why) = (greatest_text < length text) × (why ≡ Full) × (output_of text ≡ printed (number_of why))
+Admitted text (Ok lines) = (length text ≤ greatest_text) × Reads text lines × ((l : Lent) (clock : Clock) → output_of l clock text ≡ output l (empty clock) (lines_of text))
+Admitted text (Err why) = (greatest_text < length text) × (why ≡ Full) × ((l : Lent) (clock : Clock) → output_of l clock text ≡ line_for (number_of why ∷ []))
 
--- bytes written into the first places of a buffer, or refused where it is too short
-abbrev pub Filled : List ℕ → List ℕ → List ℕ → Result ℕ Refusal → Type 0
-Filled bytes old new (Ok n) = (n ≡ length bytes) × (new ≡ bytes ++ drop n old)
-Filled bytes old new (Err why) = (length old < length bytes) × (why ≡ Short) × (new ≡ old)
-
-abbrev pub Put : ℕ → List ℕ → List ℕ → Result ℕ Refusal → Type 0
-Put number old new r = Filled (printed number) old new r
-
--- a book moves as an outcome says, and is as it was where the outcome is a refusal
-abbrev pub Moved : Outcome → Book → Book → Type 0
-Moved o before after = (clock_of after ≡ o.clock) × ((why : Refusal) → o.refusal ≡ Some why → after ≡ before)
-
--- answering a line: the reply is written, the book moves, and what is printed for the lines that follow starts from there
-abbrev pub Answered : Book → List ℕ → List ℕ → Book → List ℕ → Result ℕ Refusal → Type 0
-Answered before line old after new (Ok n) = Filled (reply (clock_of before) line) old new (Ok n) × Moved (answered (clock_of before) line) before after × ((others : List (List ℕ)) → output (clock_of before) (line ∷ others) ≡ take n new ++ output (clock_of after) others)
-Answered before line old after new (Err why) = Filled (reply (clock_of before) line) old new (Err why) × (after ≡ before)
+-- answering a line: the reply is written, the book and its tables do what the line says, and what is printed for the lines that follow starts from there
+abbrev pub Replied : Book → Loan → List ℕ → List ℕ → Book → Loan → List ℕ → Result ℕ Refusal → Type 0
+Replied b loan line old b' loan' new (Ok n) =
+    (longest_reply ≤ length old)
+    × (n ≤ longest_reply)
+    × (n ≡ length (reply (lent_in loan) (book_table b loan) line))
+    × (new ≡ reply (lent_in loan) (book_table b loan) line ++ drop n old)
+    × Heard b loan line b' loan' (heard (lent_in loan) (book_table b loan) line).answer
+    × ((others : List (List ℕ)) → output (lent_in loan) (book_table b loan) (line ∷ others) ≡ take n new ++ output (lent_in loan) (book_table b' loan') others)
+Replied b loan line old b' loan' new (Err why) = (length old < longest_reply) × (why ≡ Short) × (new ≡ old) × (b' ≡ b) × (loan' ≡ loan)

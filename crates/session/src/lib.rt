@@ -1,52 +1,61 @@
 // A session with a book: lines of a text in, printed lines out.
 #![tactic(auto)]
 
-ghost use Rattle.book.specs.Taking.{clock_of, Agrees};
-ghost use Rattle.session.specs.Printing.{answered, Admitted, Put, Answered};
+ghost use Rattle.text.specs.Spelling.{SpelledAt};
+ghost use Rattle.design.specs.Table.{loan_in, SameTables};
+ghost use Rattle.session.specs.Printing.{bytes_for, Admitted, Replied};
 
 use book::Book;
-use reading::line::read_line;
+use design::calls::Answer;
+use design::tables::Tables;
+use loading::hear::hear;
 use refusals::Refusal;
-use text::admission;
-use text::digits::LONGEST;
 use text::lines::Lines;
 use text::spelling::spell_line;
 
-#[cfg(test)]
-mod tests;
+// How many bytes a text may have.
+pub const GREATEST_TEXT: usize = 65_536;
 
-// How many bytes a printed line has: two digits and a line feed.
-pub const PRINTED: usize = 3;
+// How many bytes the longest printed line has: six digits and a line feed.
+pub const PRINTED: usize = 7;
 
-// The lines of a text that is short enough to be read; a longer one is refused whole. A function of its own, whose
-// contract says what is printed for the text.
+// The lines of a text that is short enough to be read; a longer one is refused whole.
 pub fn admit(text: &[u8]) -> Result<Lines<'_>, Refusal>
     ensures { Admitted text.now result }
 {
-    admission::admit(text)
+    if text.len() > GREATEST_TEXT {
+        return Err(Refusal::Full);
+    }
+    Ok(Lines::new(text))
 }
 
-// Writes a number as a line into the first places of `out`, and answers how many bytes that is.
-pub fn put_number(number: u8, out: &mut [u8]) -> Result<usize, Refusal>
-    ensures { Put number out.old out.new result }
+// Writes what is printed for an answer into the first places of `out`.
+fn put_answer(answer: Result<Answer, Refusal>, out: &mut [u8]) -> Result<usize, Refusal>
+    ensures { SpelledAt (bytes_for answer) 0 out.old out.new result }
 {
-    spell_line(&[number], out, 0)
+    match answer {
+        Ok(Answer::Done) => spell_line(&[0], out, 0),
+        Ok(Answer::Node(number)) | Ok(Answer::Coupling(number)) => {
+            let [high, low] = number.to_be_bytes();
+            spell_line(&[0, high, low], out, 0)
+        }
+        Err(refusal) => spell_line(&[refusal.into()], out, 0),
+    }
 }
 
-// A line put to the book, through digits and frame.
-fn act(book: &mut Book, line: &[u8]) -> Result<(), Refusal>
-    ensures { Agrees (answered (clock_of book.old) line.now) book.old book.new result }
-{
-    let mut room = [0; LONGEST];
-    book.take(&read_line(line, &mut room)?)
-}
-
-// Puts a line to the book and writes what is printed for it into the first places of `out`.
-pub fn answer(book: &mut Book, line: &[u8], out: &mut [u8]) -> Result<usize, Refusal>
-    ensures { Answered book.old line.now out.old book.new out.new result }
+// Puts a line to the book, writes what is printed for it into the first places of `out`, and answers how many bytes
+// that is.
+pub fn answer(
+    book: &mut Book,
+    tables: &mut Tables<'_>,
+    line: &[u8],
+    out: &mut [u8],
+) -> Result<usize, Refusal>
+    ensures reply { Replied book.old (loan_in tables.old) line.now out.old book.new (loan_in tables.new) out.new result }
+    ensures same_tables { SameTables tables.old tables.new }
 {
     if out.len() < PRINTED {
         return Err(Refusal::Short);
     }
-    put_number(act(book, line).err().map_or(0, u8::from), out)
+    put_answer(hear(book, tables, line), out)
 }

@@ -6,7 +6,7 @@ ghost use Rattle.states.specs.Typed.{coupling_answer};
 
 use super::Draft;
 use super::figures::{GREATEST_DELAY, any_above};
-use super::scan::{Role, assisting_of, exceeds, granted, is_coupled};
+use super::scan::{Role, check_pair, exceeds, granted};
 use design::couplings::Coupling;
 use design::nodes::Node;
 use refusals::Refusal;
@@ -40,11 +40,7 @@ impl Draft {
             return Err(Refusal::Node);
         }
         let k = counts.couplings;
-        let entered = granted(couplings, k);
-        if victim == aggressor || is_coupled(entered, victim, aggressor) {
-            return Err(Refusal::Pair);
-        }
-        let sum = assisting_of(entered, victim) + u64::from(assisting);
+        let sum = check_pair(granted(couplings, k), victim, aggressor)? + u64::from(assisting);
         if exceeds(granted(nodes, counts.nodes), victim, sum) {
             return Err(Refusal::Assist);
         }

@@ -1,13 +1,14 @@
 // The questions that the tests ask of rows and tables.
 ghost use Rattle.std.specs.Prelude.{◌≡◌, ◌+◌, ◌≤◌, not, ◌&&◌, ◌||◌, length, take, nat_lt, slice_index_or};
 ghost use Rattle.design.specs.declared.nodes.Node.TheVariants.{Free};
-ghost use Rattle.design.specs.Rows.{least_delay, is_coupled, assisting_of};
+ghost use Rattle.design.specs.Rows.{least_delay};
 ghost use Rattle.design.specs.Tests.{any_unfed};
-ghost use Rattle.states.specs.Roles.{allows, other_in, any_other_in};
+ghost use Rattle.states.specs.Roles.{allows, other_in, any_other_in, Unpaired};
 
 use super::counts::Counts;
 use design::couplings::Coupling;
 use design::nodes::Node;
+use refusals::Refusal;
 
 // What a call wants of a node. An enum and no closure: of a closure a contract can only say what a call of it gives.
 #[derive(Clone, Copy)]
@@ -60,24 +61,29 @@ pub(crate) fn any_unfed(nodes: &[Node]) -> bool
     nodes.iter().any(|node| node.is_unfed())
 }
 
-// Whether one of the couplings is of this victim with this aggressor.
-pub(crate) fn is_coupled(couplings: &[Coupling], victim: u16, aggressor: u16) -> bool
-    ensures { result ≡ is_coupled couplings.now victim aggressor }
-{
-    couplings.iter().any(|coupling| coupling.victim == victim && coupling.aggressor == aggressor)
-}
-
-// The sum of the assisting amounts of a victim.
-pub(crate) fn assisting_of(couplings: &[Coupling], victim: u16) -> u64
+// The test of a pair: refused where the victim is its own aggressor, or has the aggressor already. Passed, it answers the
+// sum of the assisting amounts that the victim has, so that one pass over the couplings serves this test and the next.
+pub(crate) fn check_pair(
+    couplings: &[Coupling],
+    victim: u16,
+    aggressor: u16,
+) -> Result<u64, Refusal>
     requires { length couplings.now ≤ 1024 }
-    ensures value { result ≡ assisting_of couplings.now victim }
-    ensures small { result ≤ 4398046510080 }
+    ensures { Unpaired couplings.now victim aggressor result }
 {
-    couplings
-        .iter()
-        .filter(|coupling| coupling.victim == victim)
-        .map(|coupling| u64::from(coupling.assisting))
-        .sum()
+    if victim == aggressor {
+        return Err(Refusal::Pair);
+    }
+    let mut sum = 0;
+    for coupling in couplings {
+        if coupling.victim == victim {
+            if coupling.aggressor == aggressor {
+                return Err(Refusal::Pair);
+            }
+            sum += u64::from(coupling.assisting);
+        }
+    }
+    Ok(sum)
 }
 
 // Whether an amount exceeds the least delay of a node whose row the table has.

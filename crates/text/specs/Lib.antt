@@ -2,4 +2,3 @@
 pub mod Lines
 pub mod Digits
 pub mod Spelling
-pub mod Admission

@@ -4,7 +4,7 @@ ghost use Rattle.design.specs.Table.{is_open, loan_in, SameTables};
 ghost use Rattle.design.specs.Calls.{asked};
 ghost use Rattle.design.specs.Effects.{Answered};
 ghost use Rattle.states.specs.Views.{loan_of};
-ghost use Rattle.designbook.specs.Views.{book_table, state_of, counts_of};
+ghost use Rattle.book.specs.Views.{book_table, state_of, counts_of};
 
 use super::Book;
 use design::calls::{Answer, Call};

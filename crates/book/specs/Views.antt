@@ -3,8 +3,8 @@ use Rattle.std.specs.Prelude.{Some, None, Option}
 use Rattle.design.specs.Table.{State, unopened, draft, sealed, Table, Loan, empty}
 use Rattle.states.specs.declared.counts.Counts.{Counts}
 use Rattle.states.specs.Views.{draft_table, sealed_table}
-use Rattle.designbook.specs.declared.Book.{Book}
-use Rattle.designbook.specs.declared.Book.TheVariants.{Unopened, Draft, Sealed}
+use Rattle.book.specs.declared.Book.{Book}
+use Rattle.book.specs.declared.Book.TheVariants.{Unopened, Draft, Sealed}
 
 abbrev pub state_of : Book → State
 state_of Unopened = unopened

@@ -1,7 +1,7 @@
 // A whole list of calls made to a new book.
 ghost use Rattle.schedule.specs.Made.{drawn};
 ghost use Rattle.design.specs.Table.{loan_in, SameTables};
-ghost use Rattle.designbook.specs.Runs.{Ran};
+ghost use Rattle.book.specs.Runs.{Ran};
 
 use super::Book;
 use design::calls::{Answer, Made};

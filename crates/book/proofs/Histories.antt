@@ -19,11 +19,11 @@ use Rattle.states.specs.declared.OpenBook.{OpenBook}
 use Rattle.states.specs.declared.stages.Filling.{Filling}
 use Rattle.states.specs.Typed.{Opened}
 use Rattle.states.specs.Views.{loan_of}
-use Rattle.designbook.specs.declared.Book.{Book}
-use Rattle.designbook.specs.declared.Book.TheVariants.{Draft}
-use Rattle.designbook.specs.Views.{book_table}
-use Rattle.designbook.specs.Runs.{lent_to, history, Ran}
-use Rattle.designbook.proofs.Lending.{behind, done_whole}
+use Rattle.book.specs.declared.Book.{Book}
+use Rattle.book.specs.declared.Book.TheVariants.{Draft}
+use Rattle.book.specs.Views.{book_table}
+use Rattle.book.specs.Runs.{lent_to, history, Ran}
+use Rattle.book.proofs.Lending.{behind, done_whole}
 
 -- the table after one call more
 after_push : (o : Table) (ms : List (Lent × Ask)) (m : Lent × Ask) → after o (ms ++ m ∷ []) ≡ step m.0 (after o ms) m.1

@@ -1,8 +1,8 @@
 -- What holds before each call of a list.
 use Rattle.schedule.specs.Made.{drawn}
 use Rattle.states.specs.Views.{loan_of}
-use Rattle.designbook.proofs.Histories.{Reached}
-use Rattle.designbook.proofs.run.run.Given as goal
+use Rattle.book.proofs.Histories.{Reached}
+use Rattle.book.proofs.run.run.Given as goal
 
 abbrev pub invariant-loop-k : goal.invariant-loop-k
 invariant-loop-k l =

@@ -4,8 +4,8 @@ use Rattle.std.proofs.lemmas.List.{set_past}
 use Rattle.std.proofs.lemmas.Result.{err_from_is_err_and}
 use Rattle.schedule.specs.Made.{drawn}
 use Rattle.design.specs.Table.{loan_in}
-use Rattle.designbook.proofs.Histories.{reached_none, reached_more, reached_all, unopened_ran}
-use Rattle.designbook.proofs.run.run.Goals as goal
+use Rattle.book.proofs.Histories.{reached_none, reached_more, reached_all, unopened_ran}
+use Rattle.book.proofs.run.run.Goals as goal
 
 pub returns-in_err-open-clause-answers : goal.returns-in_err-open-clause-answers
 returns-in_err-open-clause-answers c =

@@ -13,9 +13,9 @@ use Rattle.design.proofs.Granted.{granted, long_enough, taken_unopened}
 use Rattle.design.proofs.Growing.{Grows, put_grows}
 use Rattle.states.specs.Views.{loan_of}
 use Rattle.states.proofs.Seen.{length-first}
-use Rattle.designbook.specs.declared.Book.{Book}
-use Rattle.designbook.specs.declared.Book.TheVariants.{Unopened, Draft, Sealed}
-use Rattle.designbook.specs.Views.{book_table}
+use Rattle.book.specs.declared.Book.{Book}
+use Rattle.book.specs.declared.Book.TheVariants.{Unopened, Draft, Sealed}
+use Rattle.book.specs.Views.{book_table}
 
 -- those of the first rows that the front has are the same with more behind it
 first_lent : {X : Type 0} (d : X) (n : ℕ) (xs ys : List X) → take (length xs) (first d n xs) ≡ take (length xs) (first d n (xs ++ ys))

@@ -1,10 +1,10 @@
 #!/usr/bin/env bash
-# Runs the program designmark, as the gate built it, on the texts in tests/texts, and on texts with more rows than it
+# Runs the program clockmark, as the gate built it, on the texts in tests/texts, and on texts with more rows than it
 # takes.
 set -u -o pipefail
 cd "$(dirname "$0")/.." || exit 1
 
-program=crates/designmark/out/designmark
+program=crates/clockmark/out/clockmark
 work=$(mktemp -d) || exit 1
 trap 'rm -rf "$work"' EXIT
 

@@ -9,8 +9,8 @@ use Rattle.design.specs.Table.{Lent, Loan, lent_in, opening}
 use Rattle.design.specs.Calls.{Ask, asked}
 use Rattle.design.specs.Effects.{after, answers_to, Beyond}
 use Rattle.design.specs.SoFar.{Stands}
-use Rattle.designbook.specs.declared.Book.{Book}
-use Rattle.designbook.specs.Views.{book_table}
+use Rattle.book.specs.declared.Book.{Book}
+use Rattle.book.specs.Views.{book_table}
 
 -- how many rows are lent to a call of a list, of tables of these sizes
 abbrev pub lent_to : Lent → Made → Lent

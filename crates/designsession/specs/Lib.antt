@@ -1,2 +1,0 @@
--- The definitions of this crate, in reading order.
-pub mod Printing
