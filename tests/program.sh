@@ -1,9 +1,10 @@
 #!/usr/bin/env bash
-# Runs the programs clockmark and clockmark, as the gate built them, on what a stored input cannot show: how much they
-# read, how long a text may be, and that every line of any bytes gets one answer.
+# Runs the program clockmark, as the gate built it, on what a stored input cannot show: how much it reads, how long a text
+# may be, and that every line of any bytes gets one answer.
 set -u -o pipefail
 cd "$(dirname "$0")/.." || exit 1
 
+program=crates/clockmark/out/clockmark
 work=$(mktemp -d) || exit 1
 trap 'rm -rf "$work"' EXIT
 
@@ -14,45 +15,41 @@ expect() {
   local counted
   counted=$(sort "$work/out" | uniq -c | awk '{ printf "%s%s x%s", sep, $2, $1; sep = ", " }')
   if [ "$status" -ne 0 ] || [ "$counted" != "$2" ]; then
-    echo "$name: $1: status $status, answers '$counted', and not '$2'" >&2
+    echo "$1: status $status, answers '$counted', and not '$2'" >&2
     exit 1
   fi
-  echo "$name: $1: ok"
+  echo "$1: ok"
 }
 
-for name in clockmark clockmark; do
-  program=crates/$name/out/$name
+: > "$work/in"
+expect 'an empty text prints nothing' ''
 
-  : > "$work/in"
-  expect 'an empty text prints nothing' ''
+printf '08' > "$work/in"
+expect 'the last line feed may be missing' '0E x1'
 
-  printf '08' > "$work/in"
-  expect 'the last line feed may be missing' '0E x1'
+printf '08\n' > "$work/in"
+expect 'a last line feed begins no line' '0E x1'
 
-  printf '08\n' > "$work/in"
-  expect 'a last line feed begins no line' '0E x1'
+head -c 65536 /dev/zero | tr '\0' '\n' > "$work/in"
+expect 'a text of 65536 bytes is read' '0C x65536'
 
-  head -c 65536 /dev/zero | tr '\0' '\n' > "$work/in"
-  expect 'a text of 65536 bytes is read' '0C x65536'
+head -c 65537 /dev/zero | tr '\0' '\n' > "$work/in"
+expect 'a text of 65537 bytes is refused whole' '01 x1'
 
-  head -c 65537 /dev/zero | tr '\0' '\n' > "$work/in"
-  expect 'a text of 65537 bytes is refused whole' '01 x1'
+head -c 65536 /dev/zero | tr '\0' '0' > "$work/in"
+expect 'a line of 65536 digits is no frame' '0D x1'
 
-  head -c 65536 /dev/zero | tr '\0' '0' > "$work/in"
-  expect 'a line of 65536 digits is no frame' '0D x1'
+# Every byte there is, each in a line of its own before a good digit; byte 10 ends a line and makes one more.
+for code in $(seq 0 255); do
+  printf "\\x$(printf '%02x' "$code")8\\n"
+done > "$work/in"
+expect 'every byte gets an answer' '0C x241, 0D x15, 0E x1'
 
-  # Every byte there is, each in a line of its own before a good digit; byte 10 ends a line and makes one more.
-  for code in $(seq 0 255); do
-    printf "\\x$(printf '%02x' "$code")8\\n"
-  done > "$work/in"
-  expect 'every byte gets an answer' '0C x241, 0D x15, 0E x1'
-
-  # The rest of a long input is left to the next reader, which shows how much was read.
-  head -c 100000 /dev/zero | tr '\0' '8' > "$work/long"
-  left=$({ "$program" > /dev/null; wc -c; } < "$work/long")
-  if [ "$((left))" -ne $((100000 - 65537)) ]; then
-    echo "$name: of 100000 bytes $((100000 - left)) were read, and not 65537" >&2
-    exit 1
-  fi
-  echo "$name: no more than 65537 bytes are read: ok"
-done
+# The rest of a long input is left to the next reader, which shows how much was read.
+head -c 100000 /dev/zero | tr '\0' '8' > "$work/long"
+left=$({ "$program" > /dev/null; wc -c; } < "$work/long")
+if [ "$((left))" -ne $((100000 - 65537)) ]; then
+  echo "of 100000 bytes $((100000 - left)) were read, and not 65537" >&2
+  exit 1
+fi
+echo "no more than 65537 bytes are read: ok"

@@ -1,24 +1,22 @@
 #!/usr/bin/env bash
-# Runs a program on an example text and shows each line read beside its answer and what the answer means.
-# usage: bash tools/example.sh [TEXT [PROGRAM]], by default examples/schedules.txt and clockmark
+# Runs clockmark on an example text and shows each line read beside its answer and what the answer means.
+# usage: bash tools/example.sh [TEXT], by default examples/design.txt
 set -eu -o pipefail
-text=$(realpath "${1:-$(dirname "$0")/../examples/schedules.txt}")
-program=${2:-clockmark}
-cd "$(dirname "$0")/.."
+text=$(realpath "${1:-$(dirname "$0")/../examples/design.txt}")
+cd "$(dirname "$0")/../crates/clockmark"
 
 answers=$(mktemp)
-trap 'rm -f "$answers"' EXIT
+told=$(mktemp)
+trap 'rm -f "$answers" "$told"' EXIT
 
-# The program is proved before it is built; later runs take what is there.
-binary=crates/$program/out/$program
-if [ ! -x "$binary" ]; then
-  echo "proving and building $program: this takes some minutes the first time" >&2
-  if ! (cd "crates/$program" && rt run) < /dev/null > /dev/null 2> "$answers"; then
-    tail -n 20 "$answers" >&2
-    exit 1
-  fi
+# The program is proved before it is built, and built anew only where something has changed.
+if [ ! -x out/clockmark ]; then
+  echo 'proving and building clockmark: this takes some minutes the first time' >&2
 fi
-"$binary" < "$text" > "$answers"
+if ! rt run < "$text" > "$answers" 2> "$told"; then
+  tail -n 20 "$told" >&2
+  exit 1
+fi
 
 awk '
   BEGIN {

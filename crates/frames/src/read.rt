@@ -1,5 +1,5 @@
 // Reading a frame: bytes are taken apart into a kind, its fixed fields and what is listed after them.
-ghost use Rattle.std.specs.Prelude.{◌≡◌, Some as Known};
+ghost use Rattle.std.specs.Prelude.{Some as Known};
 ghost use Rattle.frames.specs.Contents.{ReadAs, Read};
 
 use super::kinds::Kind;

@@ -1,8 +1,8 @@
 // Writing a frame as bytes.
-ghost use Rattle.std.specs.Prelude.{◌≡◌, ◌≤◌, [], ◌∷◌, ◌++◌, length, drop};
+ghost use Rattle.std.specs.Prelude.{◌≡◌, ◌≤◌, [], ◌++◌, length, drop};
 ghost use Rattle.std.specs.List.{flat_map};
-ghost use Rattle.frames.specs.Kinds.{byte_of, widths, fixed_width};
-ghost use Rattle.frames.specs.Frames.{join, fields_of, Fit};
+ghost use Rattle.frames.specs.Kinds.{widths, fixed_width};
+ghost use Rattle.frames.specs.Frames.{fields_of, Fit};
 ghost use Rattle.frames.specs.Contents.{content_of, count_of, Written};
 
 use super::Frame;

@@ -1,10 +1,9 @@
 // The lines of a table's text, written one after another.
-ghost use Rattle.std.specs.Prelude.{◌≡◌, ◌+◌, ◌*◌, ◌≤◌, true, None, [], ◌∷◌, ◌++◌, map, length, take, slice_index};
+ghost use Rattle.std.specs.Prelude.{◌≡◌, ◌≤◌, None, [], ◌∷◌, ◌++◌, map, length, take, slice_index};
 ghost use Rattle.std.specs.List.{range_with_len};
-ghost use Rattle.schedule.specs.Made.{drawn};
 ghost use Rattle.frames.specs.Frames.{bytes_in};
 ghost use Rattle.frames.specs.Contents.{content_of, unwritten};
-ghost use Rattle.loading.specs.Writing.{joined, phase_bytes, schedule_frame, node_frame, feed_frame, feed_frames, couple_frame};
+ghost use Rattle.loading.specs.Writing.{joined, schedule_frame, node_frame, feed_frame, feed_frames, couple_frame};
 ghost use Rattle.listing.specs.Appending.{Appends};
 
 use design::couplings::Coupling;

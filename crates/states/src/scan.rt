@@ -1,5 +1,5 @@
 // The questions that the tests ask of rows and tables.
-ghost use Rattle.std.specs.Prelude.{◌≡◌, ◌+◌, ◌≤◌, not, ◌&&◌, ◌||◌, length, take, nat_lt, slice_index_or};
+ghost use Rattle.std.specs.Prelude.{◌≡◌, ◌≤◌, ◌&&◌, length, take, nat_lt, slice_index_or};
 ghost use Rattle.design.specs.declared.nodes.Node.TheVariants.{Free};
 ghost use Rattle.design.specs.Rows.{least_delay};
 ghost use Rattle.design.specs.Tests.{any_unfed};

@@ -1,5 +1,5 @@
 // Hexadecimal digits: a line read as bytes, and a byte written as two digits.
-ghost use Rattle.std.specs.Prelude.{◌≡◌, ◌+◌, ◌*◌, ◌/◌, ◌<◌, true, false, [], ◌∷◌};
+ghost use Rattle.std.specs.Prelude.{◌≡◌, ◌<◌, true, [], ◌∷◌};
 ghost use Rattle.text.specs.Digits.{is_digit, digit_value, digit_for, every_digit, is_hex, bytes_of, digits_of, Decoded, undecoded_refusal};
 
 use refusals::Refusal;
