@@ -14,7 +14,7 @@ use Rattle.design.specs.Table.{State, draft, sealed, Table, Lent, opening, lent_
 use Rattle.design.specs.Calls.{Ask, open_with, input, gate, latch, feed, couple, seal, reopen, retime}
 use Rattle.design.specs.Tests.{is_other, refusal}
 use Rattle.design.specs.Effects.{with_nodes, in_state, under, add_node, add_coupling, put, unless, step, after}
-use Rattle.design.specs.SoFar.{RowStands, CouplingStands, NoPairTwice, NoneOver, Stands, AllStand}
+use Rattle.design.specs.SoFar.{RowStands, CouplingStands, NoPairTwice, NoneOver, Stands, Held}
 use Rattle.design.proofs.Granted.{granted, one_more, all_nodes, all_couplings, taken_draft, there, none_at, assisting_push}
 
 -- a place of a list with one more behind: one that was there, or the new one
@@ -157,5 +157,5 @@ after_stands t [] h = h
 after_stands t (m ∷ ms) h = after_stands (step m.0 t m.1) ms (step_stands m.0 t m.1 h)
 
 -- every table so far stands
-pub all_stand : AllStand
+pub all_stand : (clock : Clock) (lent : Lent) (calls : List (Lent × Ask)) → Held clock → Stands (after (opening clock lent) calls)
 all_stand clock lent calls held = after_stands (opening clock lent) calls (opening_stands clock lent held.0 held.1)

@@ -5,9 +5,7 @@ use Rattle.design.specs.declared.nodes.Node.{Node}
 use Rattle.design.specs.declared.nodes.Node.TheVariants.{Free, Input, Gate, Latch}
 use Rattle.design.specs.declared.couplings.Coupling.{Coupling}
 use Rattle.design.specs.Rows.{greatest_time, greatest_delay, sources_in, has_fan, gathered, is_victim, is_unfed, least_delay, no_coupling, is_pair, assisting_of}
-use Rattle.design.specs.Table.{draft, sealed, Table, Lent, opening, most_nodes, most_couplings}
-use Rattle.design.specs.Calls.{Ask}
-use Rattle.design.specs.Effects.{after}
+use Rattle.design.specs.Table.{draft, sealed, Table, most_nodes, most_couplings}
 
 -- a phase of the clock, and a least delay no greater than the greatest, which is within its limit
 abbrev pub Delayed : Clock → ℕ → ℕ → ℕ → Type 0
@@ -67,7 +65,3 @@ pub record Stands (t : Table) : Type 0 where
 -- a clock as a schedule record holds it
 abbrev pub Held : Clock → Type 0
 Held clock = (lawful clock ≡ true) × (cleared clock ≡ clock)
-
--- every table so far stands
-abbrev pub AllStand : Type 0
-AllStand = (clock : Clock) (lent : Lent) (calls : List (Lent × Ask)) → Held clock → Stands (after (opening clock lent) calls)

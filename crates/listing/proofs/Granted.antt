@@ -1,5 +1,5 @@
 -- The text of a table whose rows are the first of those lent: where it is refused, and where it is written.
-use Rattle.std.proofs.Common.{◌≡◌, ℕ, zero, suc, ◌+◌, ◌<◌, ◌≤◌, Bool, true, false, ◌||◌, ltb, ◌⊎◌, List, [], ◌∷◌, ◌++◌, map, length, take, drop, Ok, Err, sym, refl, ap, ◌∙◌, subst, arith}
+use Rattle.std.proofs.Common.{◌≡◌, ℕ, zero, suc, ◌+◌, ◌<◌, ◌≤◌, Bool, true, false, ◌||◌, ltb, ◌⊎◌, List, [], ◌∷◌, ◌++◌, map, length, take, drop, Ok, Err, sym, refl, ap, ◌∙◌, arith}
 use Rattle.std.proofs.lemmas.Bool.Decides.{nat_tests}
 use Rattle.refusals.specs.declared.Refusal.TheVariants.{Short}
 use Rattle.schedule.specs.Clock.{Clock}
@@ -14,11 +14,11 @@ use Rattle.states.specs.declared.counts.Counts.{Counts}
 use Rattle.states.specs.Views.{table_of}
 use Rattle.states.proofs.Seen.{short_seen}
 use Rattle.loading.specs.Writing.{joined, schedule_frame, node_frame, feed_frames, couple_frame, frames_of, lines_for, text_of}
-use Rattle.loading.specs.Rebuilding.{Rebuilds}
+use Rattle.loading.specs.Rebuilding.{AllRebuild}
 use Rattle.loading.proofs.Rebuild.{stands_rebuild}
 use Rattle.listing.specs.declared.lines.Listing.{Listing}
 use Rattle.listing.specs.Appending.{greatest_end, end_with, Appends}
-use Rattle.listing.specs.Listed.{WrittenTo, RebuildsSoFar}
+use Rattle.listing.specs.Listed.{WrittenTo}
 
 -- the first rows of a table that has as many
 first_taken : {X : Type 0} (d : X) (n : ℕ) (xs : List X) → n ≤ length xs → first d n xs ≡ take n xs
@@ -98,6 +98,6 @@ module _ (n : Counts) (loan : Loan) where
           puts.written (omega arith) (omega (arith, ap length same)) ∙ rw (at, begun, same) (ap (λ fs. lines_for fs ++ drop v.end old) frames_are),
         )
 
--- a table that comes from calls on a newly opened book is rebuilt by its text
-pub rebuilds_so_far : (t : Table) → RebuildsSoFar t
-rebuilds_so_far t clock lent calls held e = subst Rebuilds (sym e) (stands_rebuild _ (all_stand clock lent calls held))
+-- every table so far is rebuilt by its text
+pub all_rebuild : AllRebuild
+all_rebuild clock lent calls held = stands_rebuild _ (all_stand clock lent calls held)

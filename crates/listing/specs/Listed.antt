@@ -2,14 +2,9 @@
 use Rattle.std.specs.Prelude.{◌≡◌, ℕ, Bool, true, false, ◌||◌, List, ◌++◌, length, drop, Ok, Err, Result, nat_lt}
 use Rattle.refusals.specs.declared.Refusal.{Refusal}
 use Rattle.refusals.specs.declared.Refusal.TheVariants.{Short}
-use Rattle.schedule.specs.Clock.{Clock}
-use Rattle.design.specs.Table.{Table, Lent, opening}
-use Rattle.design.specs.Calls.{Ask}
+use Rattle.design.specs.Table.{Table, Lent}
 use Rattle.design.specs.Tests.{is_short}
-use Rattle.design.specs.Effects.{after}
-use Rattle.design.specs.SoFar.{Held}
 use Rattle.loading.specs.Writing.{text_of}
-use Rattle.loading.specs.Rebuilding.{Rebuilds}
 
 -- a lent table has fewer rows than are granted, or the buffer fewer bytes than the text
 abbrev pub no_room_for : Lent → Table → ℕ → Bool
@@ -19,7 +14,3 @@ no_room_for l t room = is_short l t 0 0 || nat_lt room (length (text_of t))
 abbrev pub WrittenTo : Lent → Table → List ℕ → List ℕ → Result ℕ Refusal → Type 0
 WrittenTo l t old new (Ok n) = (no_room_for l t (length old) ≡ false) × (n ≡ length (text_of t)) × (new ≡ text_of t ++ drop n old)
 WrittenTo l t old new (Err why) = (no_room_for l t (length old) ≡ true) × (why ≡ Short) × (new ≡ old)
-
--- a table that comes from calls on a newly opened book is rebuilt by its text
-abbrev pub RebuildsSoFar : Table → Type 0
-RebuildsSoFar t = (clock : Clock) (lent : Lent) (calls : List (Lent × Ask)) → Held clock → t ≡ after (opening clock lent) calls → Rebuilds t

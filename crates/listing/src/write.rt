@@ -1,7 +1,8 @@
 // The text of a table.
 ghost use Rattle.design.specs.Table.{State, lent_in};
 ghost use Rattle.states.specs.Views.{loan_of, table_of};
-ghost use Rattle.listing.specs.Listed.{WrittenTo, RebuildsSoFar};
+ghost use Rattle.loading.specs.Rebuilding.{AllRebuild};
+ghost use Rattle.listing.specs.Listed.{WrittenTo};
 
 use super::lines::Listing;
 use design::couplings::Coupling;
@@ -21,7 +22,7 @@ pub fn write(
     out: &mut [u8],
 ) -> Result<usize, Refusal>
     ensures text { (state : State) → WrittenTo (lent_in (loan_of schedule.now nodes.now couplings.now)) (table_of state counts (loan_of schedule.now nodes.now couplings.now)) out.old out.new result }
-    ensures rebuilds { (state : State) → RebuildsSoFar (table_of state counts (loan_of schedule.now nodes.now couplings.now)) }
+    ensures rebuilds { AllRebuild }
 {
     let nodes = nodes.get(..counts.nodes).ok_or(Refusal::Short)?;
     let couplings = couplings.get(..counts.couplings).ok_or(Refusal::Short)?;
