@@ -53,3 +53,16 @@ if [ "$((left))" -ne $((100000 - 65537)) ]; then
   exit 1
 fi
 echo "no more than 65537 bytes are read: ok"
+
+# What breaks outside the program ends it with status 1 and an error that is told.
+broken() {
+  if [ "$1" -ne 1 ] || [ ! -s "$work/told" ]; then
+    echo "$2: status $1, told: $(cat "$work/told")" >&2
+    exit 1
+  fi
+  echo "$2: ok"
+}
+printf '08' | "$program" > /dev/full 2> "$work/told"
+broken $? 'output that cannot be written ends it with status 1'
+"$program" < "$work" > /dev/null 2> "$work/told"
+broken $? 'input that cannot be read ends it with status 1'

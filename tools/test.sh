@@ -1,6 +1,6 @@
 #!/usr/bin/env bash
-# Passes the tests: the gate over every crate, then the scripts that use the programs and the libraries which the gate
-# built.
+# Runs the tests: the gate, `rt ci`, over every crate, then the scripts that use the program and the libraries which the
+# gate built.
 # The gate's own line, 'N passed, 0 failed', is printed last, and only if everything passed.
 set -u -o pipefail
 cd "$(dirname "$0")/.." || exit 1
@@ -16,7 +16,10 @@ case "$verdict" in
 esac
 
 # An edit that no longer fits the text is no failure of the gate, but shows nothing of a contract.
-ok=$(grep '^rt: ok' "$log") || exit 1
+if ! ok=$(grep '^rt: ok' "$log"); then
+  echo "the gate does not say 'rt: ok'"
+  exit 1
+fi
 case "$ok" in
   *', '*[0-9]' bad'*)
     echo 'must-fail edits are bad: mend them'

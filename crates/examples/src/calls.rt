@@ -1,4 +1,4 @@
-// Lists of calls and their answers: each refusal that a call can meet, in each state.
+// Lists of calls and their answers: each refusal that a call on an open book can meet.
 use super::clocks::{one_phase, two_phases};
 use book::Book;
 use book::run::run;

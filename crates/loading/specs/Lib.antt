@@ -2,6 +2,6 @@
 pub mod Asking
 pub mod Hearing
 pub mod Loading
+pub mod Loads
 pub mod Writing
 pub mod Rebuilding
-pub mod Loads

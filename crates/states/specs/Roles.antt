@@ -1,5 +1,5 @@
 -- What a call wants of a node, and the questions that the tests ask of lent rows.
-use Rattle.std.specs.Prelude.{◌≡◌, ℕ, ◌≤◌, Bool, true, false, not, ◌&&◌, ◌||◌, List, length, Ok, Err, Result, ◌==◌, nat_le, nat_lt, slice_index_or}
+use Rattle.std.specs.Prelude.{◌≡◌, ℕ, ◌≤◌, Bool, true, false, not, ◌&&◌, ◌||◌, List, length, Ok, Err, Result, ◌*◌, ◌==◌, nat_le, nat_lt, slice_index_or}
 use Rattle.std.specs.List.{list_any}
 use Rattle.refusals.specs.declared.Refusal.{Refusal}
 use Rattle.refusals.specs.declared.Refusal.TheVariants.{Pair}
@@ -23,7 +23,7 @@ other_in allowed count rows k = nat_le count k || (nat_lt k (length rows) && not
 abbrev pub any_other_in : (Node → Bool) → ℕ → List Node → List ℕ → Bool
 any_other_in allowed count rows ks = list_any (other_in allowed count rows) ks
 
--- a pair passed with the sum of the assisting amounts that its victim has, or refused where the victim is its own aggressor or has the aggressor already
+-- A pair passed with the sum of the assisting amounts that its victim has, or refused where the victim is its own aggressor or has the aggressor already. The sum is of at most 1024 amounts of 32 bits.
 abbrev pub Unpaired : List Coupling → ℕ → ℕ → Result ℕ Refusal → Type 0
-Unpaired ks victim aggressor (Ok sum) = ((victim == aggressor || is_coupled ks victim aggressor) ≡ false) × (sum ≡ assisting_of ks victim) × (sum ≤ 4398046510080)
+Unpaired ks victim aggressor (Ok sum) = ((victim == aggressor || is_coupled ks victim aggressor) ≡ false) × (sum ≡ assisting_of ks victim) × (sum ≤ 1024 * 4294967295)
 Unpaired ks victim aggressor (Err why) = ((victim == aggressor || is_coupled ks victim aggressor) ≡ true) × (why ≡ Pair)
