@@ -7,7 +7,7 @@ use Rattle.schedule.proofs.Cleared.{cleared-lawful, cleared_again}
 use Rattle.design.specs.declared.nodes.Node.{Node}
 use Rattle.design.specs.declared.couplings.Coupling.{Coupling}
 use Rattle.design.specs.declared.calls.Answer.{Answer}
-use Rattle.design.specs.declared.calls.Made.{Made}
+use Rattle.design.specs.declared.calls.LentCall.{LentCall}
 use Rattle.design.specs.Table.{is_open, Table, Lent, Loan, lent_in, opening}
 use Rattle.design.specs.Calls.{Ask, asked}
 use Rattle.design.specs.Tests.{refusal}
@@ -16,7 +16,7 @@ use Rattle.design.specs.SoFar.{Stands}
 use Rattle.design.proofs.Growing.{beyond_both}
 use Rattle.design.proofs.Standing.{all_stand}
 use Rattle.states.specs.declared.OpenBook.{OpenBook}
-use Rattle.states.specs.declared.stages.Filling.{Filling}
+use Rattle.states.specs.declared.stages.Editable.{Editable}
 use Rattle.states.specs.Typed.{Opened}
 use Rattle.states.specs.Views.{loan_of}
 use Rattle.book.specs.declared.Book.{Book}
@@ -41,18 +41,18 @@ length_answers o [] = refl
 length_answers o (x ∷ ms) = ap suc (length_answers (step x.0 o x.1) ms)
 
 -- What holds after the first k calls of a list: the table is theirs, rows past those that are granted are as they were, and the answers are theirs, as many as there is room for.
-pub record Reached (loan : Loan) (clock : Clock) (calls : List Made) (room : List (Result Answer Refusal)) (k : ℕ) (book : Book) (now : Loan) (said : List (Result Answer Refusal)) : Type 0 where
+pub record Reached (loan : Loan) (clock : Clock) (calls : List LentCall) (room : List (Result Answer Refusal)) (k : ℕ) (book : Book) (now : Loan) (said : List (Result Answer Refusal)) : Type 0 where
   pub law : lawful clock ≡ true
   pub table : book_table book now ≡ after (opening (cleared clock) (lent_in loan)) (history (lent_in loan) (take k calls))
   pub beyond : Beyond (book_table book now) loan now
   pub answers : said ≡ take (length room) (answers_to (opening (cleared clock) (lent_in loan)) (history (lent_in loan) (take k calls))) ++ drop k room
 
 -- before the first call
-pub reached_none : (loan now : Loan) (clock : Clock) (calls : List Made) (room : List (Result Answer Refusal)) (d : OpenBook Filling) → Opened loan clock now (Ok d) → Reached now clock calls room 0 (Draft d) now room
+pub reached_none : (loan now : Loan) (clock : Clock) (calls : List LentCall) (room : List (Result Answer Refusal)) (d : OpenBook Editable) → Opened loan clock now (Ok d) → Reached now clock calls room 0 (Draft d) now room
 reached_none loan now clock calls room d h = record { law = grind arith; table = grind arith; beyond = (refl, refl); answers = grind (arith, take_all) }
 
 -- so far the table stands
-reached_stands : {loan : Loan} {clock : Clock} {calls : List Made} {room : List (Result Answer Refusal)} {k : ℕ} {book : Book} {now : Loan} {said : List (Result Answer Refusal)} → Reached loan clock calls room k book now said → Stands (book_table book now)
+reached_stands : {loan : Loan} {clock : Clock} {calls : List LentCall} {room : List (Result Answer Refusal)} {k : ℕ} {book : Book} {now : Loan} {said : List (Result Answer Refusal)} → Reached loan clock calls room k book now said → Stands (book_table book now)
 reached_stands {loan = loan} {clock = clock} {calls = calls} {k = k} ran = subst Stands (sym ran.table) (all_stand (cleared clock) (lent_in loan) (history (lent_in loan) (take k calls)) (cleared-lawful clock ran.law, cleared_again clock ran.law))
 
 -- a list of answers after one more, where it has room for it, behind answers that stand over the front of a list
@@ -60,7 +60,7 @@ answered_more : {X : Type 0} (room xs said : List X) (k : ℕ) (a : X) → lengt
 answered_more room xs said k a long same e = grind (arith, take_all, length_push, drop_more room k a, set_at, append_assoc, drop_all, take-append-le, set_past)
 
 -- One call more, made with the front of each table.
-pub reached_more : (loan : Loan) (clock : Clock) (calls : List Made) (room : List (Result Answer Refusal)) (k : ℕ) (d : Made) (b b' : Book) (x x' : Clock) (ns ms : List Node) (ks js : List Coupling) (a e : ℕ) (said next : List (Result Answer Refusal)) (r : Result Answer Refusal)
+pub reached_more : (loan : Loan) (clock : Clock) (calls : List LentCall) (room : List (Result Answer Refusal)) (k : ℕ) (d : LentCall) (b b' : Book) (x x' : Clock) (ns ms : List Node) (ks js : List Coupling) (a e : ℕ) (said next : List (Result Answer Refusal)) (r : Result Answer Refusal)
     → Reached loan clock calls room k b (loan_of x ns ks) said
     → k < length calls
     → Answered book_table b (loan_of x (take a ns) (take e ks)) (asked (get_or calls k d).call) b' (loan_of x' ms js) r
@@ -86,12 +86,12 @@ reached_more loan clock calls room k d b b' x x' ns ms ks js a e said next r ran
     }
 
 -- after all the calls
-pub reached_all : {loan : Loan} {clock : Clock} {calls : List Made} {room : List (Result Answer Refusal)} {k : ℕ} {book : Book} {now : Loan} {said : List (Result Answer Refusal)}
+pub reached_all : {loan : Loan} {clock : Clock} {calls : List LentCall} {room : List (Result Answer Refusal)} {k : ℕ} {book : Book} {now : Loan} {said : List (Result Answer Refusal)}
     → Reached loan clock calls room k book now said → k ≡ length calls → Ran loan clock calls room now said (Ok book)
 reached_all {calls = calls} {k = k} ran end =
     let all : take k calls ≡ calls = take_all k calls (omega arith) in
     (ran.law, rw all at ran.table, reached_stands ran, ran.beyond, rw (all, end) at ran.answers)
 
 -- where no book was opened, the clock is not lawful and nothing is done
-pub unopened_ran : (loan : Loan) (clock : Clock) (calls : List Made) (room : List (Result Answer Refusal)) (loan' : Loan) (why : Refusal) → Opened loan clock loan' (Err why) → Ran loan clock calls room loan' room (Err why)
+pub unopened_ran : (loan : Loan) (clock : Clock) (calls : List LentCall) (room : List (Result Answer Refusal)) (loan' : Loan) (why : Refusal) → Opened loan clock loan' (Err why) → Ran loan clock calls room loan' room (Err why)
 unopened_ran loan clock calls room loan' why h = (grind arith, grind arith, h.1, refl)

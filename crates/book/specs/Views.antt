@@ -1,6 +1,6 @@
 -- The table that a book says in whichever state.
 use Rattle.std.specs.Prelude.{Some, None, Option}
-use Rattle.design.specs.Table.{State, unopened, draft, sealed, Table, Loan, empty}
+use Rattle.design.specs.Table.{State, unopened, draft, sealed, Table, Loan, unopened_table}
 use Rattle.states.specs.declared.counts.Counts.{Counts}
 use Rattle.states.specs.Views.{draft_table, sealed_table}
 use Rattle.book.specs.declared.Book.{Book}
@@ -19,6 +19,6 @@ counts_of (Sealed s) = Some s.counts
 
 -- an unopened book has granted nothing, whatever the schedule record and the tables hold
 abbrev pub book_table : Book → Loan → Table
-book_table Unopened loan = empty loan.schedule
+book_table Unopened loan = unopened_table loan.schedule
 book_table (Draft d) loan = draft_table d loan
 book_table (Sealed s) loan = sealed_table s loan

@@ -4,7 +4,7 @@ ghost use Rattle.design.specs.Table.{loan_in, SameTables};
 ghost use Rattle.book.specs.Runs.{Ran};
 
 use super::Book;
-use design::calls::{Answer, Made};
+use design::calls::{Answer, LentCall};
 use design::tables::Tables;
 use refusals::Refusal;
 use schedule::figures::Figures;
@@ -15,7 +15,7 @@ use states::Draft;
 pub fn run(
     tables: &mut Tables<'_>,
     figures: &Figures,
-    calls: &[Made<'_>],
+    calls: &[LentCall<'_>],
     answers: &mut [Result<Answer, Refusal>],
 ) -> Result<Book, Refusal>
     ensures answers { Ran (loan_in tables.old) (drawn figures.now) calls.now answers.old (loan_in tables.new) answers.new result }

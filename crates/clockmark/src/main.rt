@@ -6,7 +6,7 @@ use design::couplings::Coupling;
 use design::nodes::Node;
 use design::tables::Tables;
 use schedule::Schedule;
-use session::{GREATEST_TEXT, PRINTED, admit, answer};
+use session::{GREATEST_TEXT, LONGEST_REPLY, admit, answer};
 use std::io;
 use std::io::{BufWriter, Read, Write};
 use text::spelling::spell_line;
@@ -19,7 +19,7 @@ const COUPLINGS: usize = 256;
 // Prints the answer to each line of a text, or one refusal of the whole text.
 fn mark<W: Write>(text: &[u8], out: &mut W) -> io::Result<()> {
     // Long enough for a printed line, so that no call below is refused as short.
-    let mut room = [0; PRINTED];
+    let mut room = [0; LONGEST_REPLY];
     let lines = match admit(text) {
         Ok(lines) => lines,
         Err(refusal) => {

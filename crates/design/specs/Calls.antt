@@ -6,7 +6,7 @@ use Rattle.design.specs.declared.calls.Call.{Call}
 use Rattle.design.specs.declared.calls.Call.TheVariants.{Open, Input, Gate, Latch, Feed, Couple, Seal, Reopen, Retime}
 use Rattle.design.specs.Table.{State, unopened, draft, sealed}
 
--- a call of a history, with its figures
+-- a call of a history, with its figures, which may be anything: a clock need not be lawful
 pub data Ask : Type 0 where
   open_with : (clock : Clock) → Ask
   input : (phase earliest latest : ℕ) → Ask

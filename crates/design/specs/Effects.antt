@@ -48,7 +48,7 @@ put l t seal = in_state sealed t
 put l t reopen = in_state draft t
 put l t (retime clock) = under (cleared clock) t
 
--- what a granted call answers: a new row's number
+-- what a granted call answers: the number of the row that it adds, or only that it was done
 abbrev pub given : Table → Ask → Answer
 given t (open_with clock) = Done
 given t (input phase earliest latest) = NodeAnswer (length t.nodes)

@@ -49,11 +49,14 @@ NoPairTwice ks = (i j : ℕ) → i < j → j < length ks → is_pair (slice_inde
 abbrev pub NoneOver : List Node → List Coupling → Type 0
 NoneOver nodes ks = (v : ℕ) → assisting_of ks v ≤ least_delay (slice_index_or nodes v Free)
 
+-- a clock as a schedule record holds it
+abbrev pub Held : Clock → Type 0
+Held clock = (lawful clock ≡ true) × (cleared clock ≡ clock)
+
 -- A table that stands: a lawful clock with nothing past its last phase, no more rows than the book takes, each row and coupling sound, and no unfed latch where it is sealed.
 pub record Stands (t : Table) : Type 0 where
   pub opened : (t.state ≡ draft) ⊎ (t.state ≡ sealed)
-  pub law : lawful t.clock ≡ true
-  pub clear : cleared t.clock ≡ t.clock
+  pub held : Held t.clock
   pub node_count : (length t.nodes ≤ t.node_room) × (t.node_room ≤ most_nodes)
   pub coupling_count : (length t.couplings ≤ t.coupling_room) × (t.coupling_room ≤ most_couplings)
   pub rows : (k : ℕ) → k < length t.nodes → RowStands t.clock (length t.nodes) k (slice_index_or t.nodes k Free)
@@ -61,7 +64,3 @@ pub record Stands (t : Table) : Type 0 where
   pub once : NoPairTwice t.couplings
   pub within : NoneOver t.nodes t.couplings
   pub fed : t.state ≡ sealed → (k : ℕ) → k < length t.nodes → is_unfed (slice_index_or t.nodes k Free) ≡ false
-
--- a clock as a schedule record holds it
-abbrev pub Held : Clock → Type 0
-Held clock = (lawful clock ≡ true) × (cleared clock ≡ clock)

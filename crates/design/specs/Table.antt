@@ -11,13 +11,13 @@ pub data State : Type 0 where
   draft : State
   sealed : State
 
--- a book that was opened stays open
+-- the states of a book that is open
 abbrev pub is_open : State → Bool
 is_open unopened = false
 is_open draft = true
 is_open sealed = true
 
--- The clock, the rows granted so far in the order of their numbers, and how many rows the book takes.
+-- The clock, the state, the rows granted so far in the order of their numbers, and how many rows the book takes.
 pub record Table : Type 0 where
   pub clock : Clock
   pub state : State
@@ -39,8 +39,8 @@ abbrev pub most_couplings : ℕ
 most_couplings = 1024
 
 -- the table of a book that is not opened: nothing is granted, and nothing can be
-abbrev pub empty : Clock → Table
-empty clock = record { clock = clock; state = unopened; nodes = []; couplings = []; node_room = 0; coupling_room = 0 }
+abbrev pub unopened_table : Clock → Table
+unopened_table clock = record { clock = clock; state = unopened; nodes = []; couplings = []; node_room = 0; coupling_room = 0 }
 
 -- The table of a book newly opened: an empty draft. It takes as many rows as the tables have that are lent at opening, up to the most.
 abbrev pub opening : Clock → Lent → Table

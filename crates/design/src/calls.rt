@@ -53,7 +53,7 @@ pub enum Answer {
 
 // A call of a list of calls, and how many rows of each table are lent to it; of a table that has fewer, all.
 #[derive(Clone, Copy)]
-pub struct Made<'a> {
+pub struct LentCall<'a> {
     pub nodes: usize,
     pub couplings: usize,
     pub call: Call<'a>,

@@ -13,7 +13,7 @@ use Rattle.design.specs.Table.{Lent, most_nodes, most_couplings}
 use Rattle.design.specs.Calls.{couple}
 use Rattle.design.specs.SoFar.{CouplingStands, NoPairTwice, NoneOver}
 use Rattle.loading.specs.Writing.{couple_frame}
-use Rattle.loading.proofs.Heard.{Makes, makes_one, makes_each}
+use Rattle.loading.proofs.Outcomes.{Makes, makes_one, makes_each}
 use Rattle.loading.proofs.NodeRows.{drafted, IsNode}
 
 -- no pair twice in a list, so none before a coupling is of its pair

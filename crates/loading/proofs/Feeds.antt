@@ -12,7 +12,7 @@ use Rattle.design.specs.Calls.{feed}
 use Rattle.design.specs.Effects.{put}
 use Rattle.design.specs.SoFar.{RowStands}
 use Rattle.loading.specs.Writing.{feed_frame, feed_frames}
-use Rattle.loading.proofs.Heard.{Makes, makes_none, makes_one, makes_each}
+use Rattle.loading.proofs.Outcomes.{Makes, makes_none, makes_one, makes_each}
 use Rattle.loading.proofs.NodeRows.{drafted, unfed, IsNode, live_parts}
 
 -- the feed of one row, among rows before it and rows behind it

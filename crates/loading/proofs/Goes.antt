@@ -13,9 +13,9 @@ use Rattle.book.specs.declared.Book.{Book}
 use Rattle.book.specs.declared.Book.TheVariants.{Unopened}
 use Rattle.book.specs.Views.{book_table}
 use Rattle.loading.specs.Asking.{asks}
-use Rattle.loading.specs.Hearing.{called, framed, heard}
+use Rattle.loading.specs.Outcomes.{called, framed, line_outcome}
 use Rattle.loading.specs.Loading.{load_from, loaded}
-use Rattle.loading.specs.Loads.{Heard}
+use Rattle.loading.specs.Loads.{LineTaken}
 
 -- a book that is not opened has no row
 blank_book : (b : Book) (loan : Loan) → Blank (book_table b loan)
@@ -40,11 +40,11 @@ Going start text n b loan rest =
 
 -- the next line was granted
 pub go_on : (start : Loan) (text : List ℕ) (n m : ℕ) (b b' : Book) (loan loan' : Loan) (rest rest' line : List ℕ) (a : Answer)
-    → m ≡ n + 1 → Going start text n b loan rest → lines_of rest ≡ line ∷ lines_of rest' → lent_in loan' ≡ lent_in start → Heard b loan line b' loan' (Ok a) → Going start text m b' loan' rest'
+    → m ≡ n + 1 → Going start text n b loan rest → lines_of rest ≡ line ∷ lines_of rest' → lent_in loan' ≡ lent_in start → LineTaken b loan line b' loan' (Ok a) → Going start text m b' loan' rest'
 go_on start text n m b b' loan loan' rest rest' line a next g split same h =
     let l = lent_in start in
     let t = book_table b loan in
-    let table : (heard l t line).table ≡ book_table b' loan' = cc in
+    let table : (line_outcome l t line).table ≡ book_table b' loan' = cc in
     let steps : load_from l n t (line ∷ lines_of rest') ≡ load_from l m (book_table b' loan') (lines_of rest') = cc in
     let grows : Grows t (book_table b' loan') = rw table at (framed_grows l t (line_frame line) (blank_book b loan)) in
     (same, cc, beyond_both t (book_table b' loan') start loan loan' grows g.2 h.2, λ z. absurd (omega arith))

@@ -1,7 +1,7 @@
 -- The lemmas of this crate.
 pub mod Lines
 pub mod Items
-pub mod Heard
+pub mod Outcomes
 pub mod Steps
 pub mod Goes
 pub mod NodeRows

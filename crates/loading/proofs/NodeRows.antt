@@ -18,7 +18,7 @@ use Rattle.design.specs.Tests.{is_other, any_other}
 use Rattle.design.specs.SoFar.{RowStands}
 use Rattle.loading.specs.Writing.{joined, node_frame}
 use Rattle.loading.proofs.Items.{bytes_joined, length-joined, sources_back}
-use Rattle.loading.proofs.Heard.{Makes, makes_one, makes_each}
+use Rattle.loading.proofs.Outcomes.{Makes, makes_one, makes_each}
 
 -- a draft under a clock that takes as many rows as are lent, up to the most
 abbrev pub drafted : Clock → Lent → List Node → List Coupling → Table

@@ -10,12 +10,12 @@ use Rattle.schedule.specs.Clock.{Clock, in_use, start_fits, width_fits, lawful, 
 use Rattle.schedule.proofs.Lawful.{phases_bounds, places_bounds}
 use Rattle.schedule.proofs.Cleared.{length-cleared}
 use Rattle.frames.specs.Frames.{bytes_in, number_at}
-use Rattle.design.specs.Table.{Lent, empty, opening}
+use Rattle.design.specs.Table.{Lent, unopened_table, opening}
 use Rattle.design.specs.Calls.{open_with}
 use Rattle.reading.specs.Clocks.{starts_in, widths_in, clock_in}
 use Rattle.loading.specs.Writing.{joined, phase_bytes, schedule_frame}
 use Rattle.loading.proofs.Items.{number_past, bytes_joined, length-joined, number_among}
-use Rattle.loading.proofs.Heard.{Sound, Makes, makes_one}
+use Rattle.loading.proofs.Outcomes.{Sound, Makes, makes_one}
 
 -- a test that the entries in use meet holds at each of their places
 used_at : (p : ℕ → Bool) (n : ℕ) (xs : List ℕ) (k : ℕ) → n ≤ length xs → k < n → list_all p (take n xs) ≡ true → p (get_or xs k 0) ≡ true
@@ -84,5 +84,5 @@ schedule_sound c law =
     (omega (arith, figures_small c law, phases_bounds c law), grind (arith, nat_tests), bytes_joined (phase_bytes c) (range_with_len 0 c.phases) (λ k. omega arith))
 
 -- the schedule frame opens the book
-pub load_schedule : (l : Lent) (old c : Clock) → lawful c ≡ true → cleared c ≡ c → Makes l (empty old) (schedule_frame c ∷ []) (opening c l)
+pub load_schedule : (l : Lent) (old c : Clock) → lawful c ≡ true → cleared c ≡ c → Makes l (unopened_table old) (schedule_frame c ∷ []) (opening c l)
 load_schedule l old c law clear = makes_one (open_with c) (schedule_sound c law) (ap (λ k. Some (open_with k)) (clock_back c law clear)) (grind (arith, nat_tests)) (ap (λ k. opening k l) clear)

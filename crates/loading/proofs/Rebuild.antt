@@ -4,12 +4,12 @@ use Rattle.std.proofs.lemmas.List.{append-nil}
 use Rattle.schedule.proofs.Lawful.{phases_bounds}
 use Rattle.text.specs.Lines.{lines_of}
 use Rattle.design.specs.declared.nodes.Node.TheVariants.{Free}
-use Rattle.design.specs.Table.{Table, empty}
+use Rattle.design.specs.Table.{Table, unopened_table}
 use Rattle.design.specs.SoFar.{Stands}
 use Rattle.loading.specs.Loading.{load_from}
 use Rattle.loading.specs.Writing.{frames_of, text_of}
 use Rattle.loading.specs.Rebuilding.{as_draft, Rebuilds}
-use Rattle.loading.proofs.Heard.{Makes, makes_then}
+use Rattle.loading.proofs.Outcomes.{Makes, makes_then}
 use Rattle.loading.proofs.Opened.{load_schedule}
 use Rattle.loading.proofs.NodeRows.{IsNode, live_row, load_nodes}
 use Rattle.loading.proofs.Feeds.{load_feeds}
@@ -23,10 +23,10 @@ stands_rebuild t s l before lent room =
     let ks = t.couplings in
     let most : length xs ≤ 4096 = omega (arith, s.node_count) in
     let live : (k : ℕ) → k < length xs → IsNode (get_or xs k Free) = λ k h. (live_row c (length xs) k (get_or xs k Free) (s.rows k h)).0 in
-    let all : Makes l (empty before) (frames_of t) (as_draft l t) =
-    makes_then (load_schedule l before c s.law s.clear)
-    (makes_then (load_nodes c l xs s.rows (phases_bounds c s.law).1 lent most)
+    let all : Makes l (unopened_table before) (frames_of t) (as_draft l t) =
+    makes_then (load_schedule l before c s.held.0 s.held.1)
+    (makes_then (load_nodes c l xs s.rows (phases_bounds c s.held.0).1 lent most)
     (makes_then (load_feeds c l xs s.rows lent most)
     (load_couples c l xs ks live lent most room (omega (arith, s.coupling_count)) s.pairs s.once s.within))) in
     let count : 0 + length (frames_of t) ≡ length (frames_of t) = omega arith in
-    ap (λ text. load_from l 0 (empty before) (lines_of text)) (sym (append-nil (text_of t))) ∙ all.goes 0 [] ∙ ap (λ n. load_from l n (as_draft l t) []) count
+    ap (λ text. load_from l 0 (unopened_table before) (lines_of text)) (sym (append-nil (text_of t))) ∙ all.goes 0 [] ∙ ap (λ n. load_from l n (as_draft l t) []) count

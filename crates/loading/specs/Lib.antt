@@ -1,6 +1,6 @@
 -- The definitions of this crate, in reading order.
 pub mod Asking
-pub mod Hearing
+pub mod Outcomes
 pub mod Loading
 pub mod Loads
 pub mod Writing

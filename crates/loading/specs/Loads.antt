@@ -1,4 +1,4 @@
--- What hearing a line and loading a text do to a book and its tables.
+-- What a line and a whole text do to a book and its tables.
 use Rattle.std.specs.Prelude.{◌≡◌, ℕ, List, Ok, Err, Result}
 use Rattle.refusals.specs.declared.Refusal.{Refusal}
 use Rattle.refusals.specs.declared.Fault.{Fault}
@@ -8,14 +8,14 @@ use Rattle.design.specs.Effects.{Beyond}
 use Rattle.book.specs.declared.Book.{Book}
 use Rattle.book.specs.declared.Book.TheVariants.{Unopened}
 use Rattle.book.specs.Views.{book_table}
-use Rattle.loading.specs.Hearing.{heard}
+use Rattle.loading.specs.Outcomes.{line_outcome}
 use Rattle.loading.specs.Loading.{loaded}
 
 -- a line put to a book: the answer and the table are those of the line, and a refusal leaves everything as it was
-abbrev pub Heard : Book → Loan → List ℕ → Book → Loan → Result Answer Refusal → Type 0
-Heard b loan line b' loan' r =
-    (r ≡ (heard (lent_in loan) (book_table b loan) line).answer)
-    × (book_table b' loan' ≡ (heard (lent_in loan) (book_table b loan) line).table)
+abbrev pub LineTaken : Book → Loan → List ℕ → Book → Loan → Result Answer Refusal → Type 0
+LineTaken b loan line b' loan' r =
+    (r ≡ (line_outcome (lent_in loan) (book_table b loan) line).answer)
+    × (book_table b' loan' ≡ (line_outcome (lent_in loan) (book_table b loan) line).table)
     × Beyond (book_table b' loan') loan loan'
     × ((why : Refusal) → r ≡ Err why → (b' ≡ b) × (loan' ≡ loan))
 

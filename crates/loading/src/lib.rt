@@ -2,5 +2,5 @@
 #![tactic(auto)]
 
 mod calls;
-pub mod hear;
+pub mod line;
 pub mod load;

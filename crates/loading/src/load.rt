@@ -2,7 +2,7 @@
 ghost use Rattle.design.specs.Table.{loan_in, SameTables};
 ghost use Rattle.loading.specs.Loads.{LoadedBy};
 
-use super::hear::hear;
+use super::line::take_line;
 use book::Book;
 use design::tables::Tables;
 use refusals::Fault;
@@ -17,7 +17,7 @@ pub fn load(tables: &mut Tables<'_>, text: &[u8]) -> (Book, Result<usize, Fault>
     let mut book = Book::Unopened;
     let mut granted = 0;
     for line in Lines::new(text) {
-        if let Err(refusal) = hear(&mut book, tables, line.bytes) {
+        if let Err(refusal) = take_line(&mut book, tables, line.bytes) {
             return (book, Err(Fault::at(line.number, refusal)));
         }
         granted = line.number;

@@ -13,7 +13,7 @@ use Rattle.frames.specs.declared.kinds.Kind.TheVariants.{Schedule, Input, Gate, 
 use Rattle.frames.specs.Kinds.{kind_of, item_width, fixed_width}
 use Rattle.frames.specs.Frames.{apart, last_field, is_frame, frame_as, frame_of}
 use Rattle.frames.proofs.Reading.{long_enough, listed_length}
-use Rattle.reading.specs.Line.{framed, line_frame}
+use Rattle.reading.specs.Line.{frame_or_refused, line_frame}
 
 digits_alone : (line : List ℕ) → is_hex line ≡ true → every_digit line ≡ true
 digits_alone line e =
@@ -41,13 +41,13 @@ too_long (Some k) bs small long =
 
 -- a line that is not read into the room of a frame
 pub undecoded : (line old new : List ℕ) (e : Undecoded) (x : Refusal) → Decoded line old new (Err e) → x ≡ undecoded_refusal e → line_frame line ≡ Err x
-undecoded line old new NotDigits x d ex = cond-false (is_hex line) (framed (frame_of (bytes_of line))) (Err Digits) d.0 ∙ ap Err (sym ex)
+undecoded line old new NotDigits x d ex = cond-false (is_hex line) (frame_or_refused (frame_of (bytes_of line))) (Err Digits) d.0 ∙ ap Err (sym ex)
 undecoded line old new TooLong x d ex =
     let none : frame_of (bytes_of line) ≡ None = too_long (kind_of (get_or (bytes_of line) 0 0)) (bytes_of line) (λ i. byte_small line i (digits_alone line d.0)) d.1 in
-    cond-true (is_hex line) (framed (frame_of (bytes_of line))) (Err Digits) d.0 ∙ (ap framed none ∙ ap Err (sym ex))
+    cond-true (is_hex line) (frame_or_refused (frame_of (bytes_of line))) (Err Digits) d.0 ∙ (ap frame_or_refused none ∙ ap Err (sym ex))
 
 -- a line whose bytes are no frame
 pub unframed : (line old room : List ℕ) (n : ℕ) (x : Refusal) → Decoded line old room (Ok n) → frame_of (take n room) ≡ None → x ≡ FrameRefusal → line_frame line ≡ Err x
 unframed line old room n x d none ex =
     let part : take n room ≡ bytes_of line = ap (take n) d.2 ∙ take_at (bytes_of line) (drop n old) n (sym d.1) in
-    cond-true (is_hex line) (framed (frame_of (bytes_of line))) (Err Digits) d.0 ∙ (ap framed (ap frame_of (sym part) ∙ none) ∙ ap Err (sym ex))
+    cond-true (is_hex line) (frame_or_refused (frame_of (bytes_of line))) (Err Digits) d.0 ∙ (ap frame_or_refused (ap frame_of (sym part) ∙ none) ∙ ap Err (sym ex))

@@ -8,13 +8,13 @@ use Rattle.frames.specs.Frames.{Content, frame_of}
 use Rattle.frames.specs.Contents.{content_of}
 
 -- bytes that are no frame are refused
-abbrev pub framed : Option Content → Result Content Refusal
-framed None = Err FrameRefusal
-framed (Some f) = Ok f
+abbrev pub frame_or_refused : Option Content → Result Content Refusal
+frame_or_refused None = Err FrameRefusal
+frame_or_refused (Some f) = Ok f
 
 -- the frame of a line, or why it has none
 abbrev pub line_frame : List ℕ → Result Content Refusal
-line_frame line = cond (is_hex line) (framed (frame_of (bytes_of line))) (Err Digits)
+line_frame line = cond (is_hex line) (frame_or_refused (frame_of (bytes_of line))) (Err Digits)
 
 -- reading a line answers its frame, or why it has none
 abbrev pub LineRead : List ℕ → Result Frame Refusal → Type 0

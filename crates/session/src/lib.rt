@@ -8,7 +8,7 @@ ghost use Rattle.session.specs.Printing.{bytes_for, Admitted, Replied};
 use book::Book;
 use design::calls::Answer;
 use design::tables::Tables;
-use loading::hear::hear;
+use loading::line::take_line;
 use refusals::Refusal;
 use text::lines::Lines;
 use text::spelling::spell_line;
@@ -17,7 +17,7 @@ use text::spelling::spell_line;
 pub const GREATEST_TEXT: usize = 65_536;
 
 // How many bytes the longest printed line has: six digits and a line feed.
-pub const PRINTED: usize = 7;
+pub const LONGEST_REPLY: usize = 7;
 
 // The lines of a text that is short enough to be read; a longer one is refused whole.
 pub fn admit(text: &[u8]) -> Result<Lines<'_>, Refusal>
@@ -54,8 +54,8 @@ pub fn answer(
     ensures reply { Replied book.old (loan_in tables.old) line.now out.old book.new (loan_in tables.new) out.new result }
     ensures same_tables { SameTables tables.old tables.new }
 {
-    if out.len() < PRINTED {
+    if out.len() < LONGEST_REPLY {
         return Err(Refusal::Short);
     }
-    put_answer(hear(book, tables, line), out)
+    put_answer(take_line(book, tables, line), out)
 }

@@ -7,10 +7,10 @@ use Rattle.design.specs.declared.nodes.Node.TheVariants.{Free}
 use Rattle.design.specs.Rows.{no_coupling}
 use Rattle.design.specs.Table.{State, unopened, draft, sealed, is_open, Loan, lent_in, first}
 use Rattle.design.specs.Calls.{among}
-use Rattle.design.specs.Tests.{is_other, any_other, is_short}
+use Rattle.design.specs.Tests.{other_in, is_other, any_other, is_short}
 use Rattle.states.specs.declared.counts.Counts.{Counts}
 use Rattle.states.specs.Views.{table_of}
-use Rattle.states.specs.Roles.{other_in, any_other_in}
+use Rattle.states.specs.Roles.{any_other_in}
 
 pub length-first : {X : Type 0} (d : X) (n : ℕ) (xs : List X) → length (first d n xs) ≡ n
 length-first d zero xs = refl

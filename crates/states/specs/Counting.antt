@@ -1,14 +1,15 @@
 -- The counts of a book, with one row more, and lent tables that have fewer rows.
-use Rattle.std.specs.Prelude.{◌≡◌, ℕ, ◌+◌, ◌<◌, Bool, true, false, ◌||◌, List, length, Ok, Err, Result, nat_lt, slice_set}
+use Rattle.std.specs.Prelude.{◌≡◌, ℕ, ◌+◌, ◌<◌, Bool, true, false, List, length, Ok, Err, Result, slice_set}
 use Rattle.refusals.specs.declared.Refusal.{Refusal}
 use Rattle.refusals.specs.declared.Refusal.TheVariants.{Full, Short}
 use Rattle.design.specs.declared.nodes.Node.{Node}
 use Rattle.design.specs.declared.couplings.Coupling.{Coupling}
+use Rattle.design.specs.Tests.{fewer}
 use Rattle.states.specs.declared.counts.Counts.{Counts}
 
 -- a lent table has fewer rows than are counted
 abbrev pub too_few : Counts → List Node → List Coupling → Bool
-too_few n nodes couplings = nat_lt (length nodes) n.nodes || nat_lt (length couplings) n.couplings
+too_few n nodes couplings = fewer (record { nodes = length nodes; couplings = length couplings }) n.nodes n.couplings
 
 -- one node more, or refused where as many are granted as the book takes
 abbrev pub OneNodeMore : Counts → Result Counts Refusal → Type 0

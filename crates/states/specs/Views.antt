@@ -8,8 +8,8 @@ use Rattle.design.specs.Rows.{no_coupling}
 use Rattle.design.specs.Table.{State, draft, sealed, Table, Loan, first}
 use Rattle.states.specs.declared.counts.Counts.{Counts}
 use Rattle.states.specs.declared.OpenBook.{OpenBook}
-use Rattle.states.specs.declared.stages.Filling.{Filling}
-use Rattle.states.specs.declared.stages.Filled.{Filled}
+use Rattle.states.specs.declared.stages.Editable.{Editable}
+use Rattle.states.specs.declared.stages.Frozen.{Frozen}
 
 abbrev pub loan_of : Clock → List Node → List Coupling → Loan
 loan_of schedule nodes couplings = record { schedule = schedule; nodes = nodes; couplings = couplings }
@@ -30,8 +30,8 @@ table_of state n loan =
 abbrev pub open_table : {S : Type 0} → State → OpenBook S → Loan → Table
 open_table state b loan = table_of state b.counts loan
 
-abbrev pub draft_table : OpenBook Filling → Loan → Table
+abbrev pub draft_table : OpenBook Editable → Loan → Table
 draft_table = open_table draft
 
-abbrev pub sealed_table : OpenBook Filled → Loan → Table
+abbrev pub sealed_table : OpenBook Frozen → Loan → Table
 sealed_table = open_table sealed

@@ -27,7 +27,7 @@ impl Counts {
     ghost use Rattle.states.specs.Counting.{too_few, OneNodeMore, OneCouplingMore};
 
     // The counts with one node more; refused where as many are granted as the book takes. Couplings have a method of their
-    // own: the four counts are public fields, and callers would have to change if they became two pairs of one type.
+    // own, since they are counted in fields of their own.
     pub(crate) fn with_node(mut self) -> Result<Counts, Refusal>
         ensures { OneNodeMore self result }
     {
@@ -50,7 +50,7 @@ impl Counts {
     }
 
     // Whether a lent table has fewer rows than are counted.
-    pub fn is_short(self, nodes: &[Node], couplings: &[Coupling]) -> bool
+    pub(crate) fn is_short(self, nodes: &[Node], couplings: &[Coupling]) -> bool
         ensures { result ≡ too_few self nodes.now couplings.now }
     {
         nodes.len() < self.nodes || couplings.len() < self.couplings

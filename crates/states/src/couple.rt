@@ -35,7 +35,7 @@ impl Draft {
             return Err(Refusal::Figure);
         }
         if counts.is_other(Role::Victim, nodes, victim)
-            || counts.is_other(Role::Source, nodes, aggressor)
+            || counts.is_other(Role::Any, nodes, aggressor)
         {
             return Err(Refusal::Node);
         }

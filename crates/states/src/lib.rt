@@ -3,7 +3,7 @@
 
 use counts::Counts;
 use refusals::Refusal;
-use stages::{Filled, Filling};
+use stages::{Editable, Frozen};
 use std::marker::PhantomData;
 
 mod counted;
@@ -26,11 +26,11 @@ pub struct OpenBook<S> {
     stage: PhantomData<S>,
 }
 
-// A book that is being filled.
-pub type Draft = OpenBook<Filling>;
+// A book that takes rows, feeds and couplings.
+pub type Draft = OpenBook<Editable>;
 
-// A book whose latches are all fed, and which takes no further row, feed or coupling.
-pub type Sealed = OpenBook<Filled>;
+// A book whose latches were all fed when it was sealed, and which takes no row, feed or coupling.
+pub type Sealed = OpenBook<Frozen>;
 
 // What a refused seal or reopening hands back: the book as it was, and why.
 #[derive(Drop)]

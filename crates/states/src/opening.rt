@@ -24,7 +24,6 @@ impl Draft {
     {
         *schedule = Schedule::new(figures)?;
         Ok(Draft {
-            // The counts of a new book: there are no earlier ones to count up from.
             counts: Counts {
                 nodes: 0,
                 couplings: 0,

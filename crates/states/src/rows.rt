@@ -95,7 +95,7 @@ impl Draft {
             &[least, greatest],
         )?;
         let sources = Sources::try_from(list)?;
-        if self.counts.any_other(Role::Source, nodes, list) {
+        if self.counts.any_other(Role::Any, nodes, list) {
             return Err(Refusal::Node);
         }
         let gate = Node::Gate {
@@ -156,9 +156,7 @@ impl Draft {
         ensures { Answered draft_table self.old (loan_of schedule.now nodes.old couplings.now) (feed latch source) self.new (loan_of schedule.now nodes.new couplings.now) (done_answer result) }
     {
         let counts = self.counts;
-        if counts.is_other(Role::Latch, nodes, latch)
-            || counts.is_other(Role::Source, nodes, source)
-        {
+        if counts.is_other(Role::Latch, nodes, latch) || counts.is_other(Role::Any, nodes, source) {
             return Err(Refusal::Node);
         }
         if counts.is_short(nodes, couplings) {

@@ -1,9 +1,7 @@
 // The questions that the tests ask of rows and tables.
-ghost use Rattle.std.specs.Prelude.{◌≡◌, ◌≤◌, ◌&&◌, length, take, nat_lt, slice_index_or};
-ghost use Rattle.design.specs.declared.nodes.Node.TheVariants.{Free};
-ghost use Rattle.design.specs.Rows.{least_delay};
-ghost use Rattle.design.specs.Tests.{any_unfed};
-ghost use Rattle.states.specs.Roles.{allows, other_in, any_other_in, Unpaired};
+ghost use Rattle.std.specs.Prelude.{◌≡◌, ◌≤◌, length, take};
+ghost use Rattle.design.specs.Tests.{other_in, over_in, any_unfed};
+ghost use Rattle.states.specs.Roles.{allows, any_other_in, Unpaired};
 
 use super::counts::Counts;
 use design::couplings::Coupling;
@@ -13,7 +11,7 @@ use refusals::Refusal;
 // What a call wants of a node. An enum and no closure: of a closure a contract can only say what a call of it gives.
 #[derive(Clone, Copy)]
 pub(crate) enum Role {
-    Source,
+    Any,
     Latch,
     Victim,
 }
@@ -23,7 +21,7 @@ impl Role {
         ensures { result ≡ allows self node.now }
     {
         match self {
-            Role::Source => node.is_node(),
+            Role::Any => node.is_node(),
             Role::Latch => node.is_latch(),
             Role::Victim => node.is_victim(),
         }
@@ -88,7 +86,7 @@ pub(crate) fn check_pair(
 
 // Whether an amount exceeds the least delay of a node whose row the table has.
 pub(crate) fn exceeds(nodes: &[Node], number: u16, amount: u64) -> bool
-    ensures { result ≡ (nat_lt number (length nodes.now) && nat_lt (least_delay (slice_index_or nodes.now number Free)) amount) }
+    ensures { result ≡ over_in nodes.now number amount }
 {
     nodes
         .get(usize::from(number))

@@ -9,34 +9,34 @@ use Rattle.listing.proofs.Granted.{Granted, refused_short, refused_long, written
 use Rattle.listing.proofs.write.write.Goals as goal
 
 pub returns-in_err-nodes : goal.returns-in_err-nodes
-returns-in_err-nodes c =
+returns-in_err-nodes g c =
     let loan = loan_of c.args.schedule.now c.args.nodes.now c.args.couplings.now in
     let old = c.args.out.now in
     let is : c.from_residual.result ≡ Err Short = search rules in
-    let few : length c.args.nodes.now < c.args.counts.nodes = search (rules, arith) in
-    record { text = λ s. subst (WrittenTo (lent_in loan) (table_of draft c.args.counts loan) old old) (sym is) (refused_short c.args.counts loan old (inl few)); rebuilds = all_rebuild }
+    let few : length c.args.nodes.now < c.args.book.now.counts.nodes = search (rules, arith) in
+    record { text = subst (WrittenTo (lent_in loan) (table_of draft c.args.book.now.counts loan) old old) (sym is) (refused_short c.args.book.now.counts loan old (inl few)); rebuilds = all_rebuild }
 
 pub returns-in_err-couplings : goal.returns-in_err-couplings
-returns-in_err-couplings c =
+returns-in_err-couplings g c =
     let loan = loan_of c.args.schedule.now c.args.nodes.now c.args.couplings.now in
     let old = c.args.out.now in
     let is : c.from_residual-in_err-couplings.result ≡ Err Short = search rules in
-    let few : length c.args.couplings.now < c.args.counts.couplings = search (rules, arith) in
-    record { text = λ s. subst (WrittenTo (lent_in loan) (table_of draft c.args.counts loan) old old) (sym is) (refused_short c.args.counts loan old (inr few)); rebuilds = all_rebuild }
+    let few : length c.args.couplings.now < c.args.book.now.counts.couplings = search (rules, arith) in
+    record { text = subst (WrittenTo (lent_in loan) (table_of draft c.args.book.now.counts loan) old old) (sym is) (refused_short c.args.book.now.counts loan old (inr few)); rebuilds = all_rebuild }
 
 pub returns-then-out-counted : goal.returns-then-out-counted
-returns-then-out-counted c =
+returns-then-out-counted g c =
     let loan = loan_of c.args.schedule.now c.args.nodes.now c.args.couplings.now in
-    let rows : Granted c.args.counts loan c.in_ok-nodes.nodes.now c.in_ok-couplings.couplings.now = record { has_nodes = search (rules, arith); nodes = grind (arith, common_steps); has_couplings = search (rules, arith); couplings = grind (arith, common_steps) } in
-    record { text = λ s. refused_long c.args.counts loan rows c.args.out.now _ _ c.new-counted.ensures.empty c.put_table.ensures (omega arith) c.if-out-counted.true; rebuilds = all_rebuild }
+    let rows : Granted c.args.book.now.counts loan c.in_ok-nodes.nodes.now c.in_ok-couplings.couplings.now = record { has_nodes = search (rules, arith); nodes = grind (arith, common_steps); has_couplings = search (rules, arith); couplings = grind (arith, common_steps) } in
+    record { text = refused_long c.args.book.now.counts loan rows c.args.out.now _ _ c.new-counted.ensures.empty c.put_table.ensures (omega arith) c.if-out-counted.true; rebuilds = all_rebuild }
 
 pub returns : goal.returns
-returns c =
+returns g c =
     let loan = loan_of c.args.schedule.now c.args.nodes.now c.args.couplings.now in
-    let rows : Granted c.args.counts loan c.in_ok-nodes.nodes.now c.in_ok-couplings.couplings.now = record { has_nodes = search (rules, arith); nodes = grind (arith, common_steps); has_couplings = search (rules, arith); couplings = grind (arith, common_steps) } in
+    let rows : Granted c.args.book.now.counts loan c.in_ok-nodes.nodes.now c.in_ok-couplings.couplings.now = record { has_nodes = search (rules, arith); nodes = grind (arith, common_steps); has_couplings = search (rules, arith); couplings = grind (arith, common_steps) } in
     record {
-      text = λ s.
-          let done = written_text c.args.counts loan rows c.args.out.now _ _ _ c.put_table-2.new.self c.new-counted.ensures.empty c.put_table.ensures (omega arith) c.if-out-counted.false c.new-listing.ensures.empty c.new-listing.ensures.same_bytes c.put_table-2.ensures in
+      text =
+          let done = written_text c.args.book.now.counts loan rows c.args.out.now _ _ _ c.put_table-2.new.self c.new-counted.ensures.empty c.put_table.ensures (omega arith) c.if-out-counted.false c.new-listing.ensures.empty c.new-listing.ensures.same_bytes c.put_table-2.ensures in
           (done.0, done.1, search rules);
       rebuilds = all_rebuild;
     }

@@ -1,4 +1,4 @@
--- A written frame, heard as a line, is the call that it asks for; and frames whose lines are granted make one table of another.
+-- A written frame, taken as a line, is the call that it asks for; and frames whose lines are granted make one table of another.
 use Rattle.std.proofs.Common.{◌≡◌, ℕ, ◌+◌, ◌<◌, true, List, [], ◌∷◌, ◌++◌, length, get_or, Some, None, Ok, Option, sym, refl, ap, ◌∙◌, arith, Err}
 use Rattle.refusals.specs.declared.Refusal.{Refusal}
 use Rattle.refusals.specs.declared.Refusal.TheVariants.{Digits}
@@ -14,8 +14,8 @@ use Rattle.design.specs.Calls.{Ask}
 use Rattle.design.specs.Tests.{refusal}
 use Rattle.design.specs.Effects.{given, put, unless, answer_to}
 use Rattle.loading.specs.Asking.{asks}
-use Rattle.reading.specs.Line.{framed as frame_or_refused, line_frame}
-use Rattle.loading.specs.Hearing.{Outcome, called, framed, heard}
+use Rattle.reading.specs.Line.{frame_or_refused, line_frame}
+use Rattle.loading.specs.Outcomes.{Outcome, called, framed, line_outcome}
 use Rattle.loading.specs.Loading.{unless_refused, load_from}
 use Rattle.loading.specs.Writing.{line_of, lines_for}
 use Rattle.text.proofs.Spelled.{Bytes, bytes_spelled, hex_spelled, first-spelled}
@@ -25,9 +25,9 @@ use Rattle.loading.proofs.Lines.{bytes_encode}
 abbrev pub Sound : Content → Type 0
 Sound f = Fit (widths f.kind) f.numbers × (is_whole f ≡ true) × Bytes f.listed
 
--- the line of a frame is heard as what the frame asks
-heard_frame : (l : Lent) (t : Table) (f : Content) → Sound f → heard l t (spelled (encode f)) ≡ called l t (asks (is_open t.state) f)
-heard_frame l t f s =
+-- the line of a frame is taken as what the frame asks
+frame_outcome : (l : Lent) (t : Table) (f : Content) → Sound f → line_outcome l t (spelled (encode f)) ≡ called l t (asks (is_open t.state) f)
+frame_outcome l t f s =
     let line = spelled (encode f) in
     let bytes = bytes_encode f s.2 in
     let digits = cond-true (is_hex line) (frame_or_refused (frame_of (bytes_of line))) (Err Digits) (hex_spelled (encode f) bytes (omega arith)) in
@@ -52,7 +52,7 @@ resulting l t c r = record { answer = answer_to r (given t c); table = unless r 
 pub makes_one : {l : Lent} {t u : Table} {f : Content} (c : Ask) → Sound f → asks (is_open t.state) f ≡ Some c → refusal l t c ≡ None → put l t c ≡ u → Makes l t (f ∷ []) u
 makes_one {l} {t} {u} {f} c s asking granted made =
     let line = spelled (encode f) in
-    let outcome : heard l t line ≡ record { answer = Ok (given t c); table = put l t c } = heard_frame l t f s ∙ (ap (called l t) asking ∙ ap (resulting l t c) granted) in
+    let outcome : line_outcome l t line ≡ record { answer = Ok (given t c); table = put l t c } = frame_outcome l t f s ∙ (ap (called l t) asking ∙ ap (resulting l t c) granted) in
     record {
       goes = λ n rest.
           let text : lines_for (f ∷ []) ++ rest ≡ line ++ line_feed ∷ rest = simp append_assoc in

@@ -31,5 +31,5 @@ framed l t (Ok f) = called l t (asks (is_open t.state) f)
 framed l t (Err why) = refused t why
 
 -- a line put to the book
-abbrev pub heard : Lent → Table → List ℕ → Outcome
-heard l t line = framed l t (line_frame line)
+abbrev pub line_outcome : Lent → Table → List ℕ → Outcome
+line_outcome l t line = framed l t (line_frame line)

@@ -1,6 +1,6 @@
 // A line put to a book, through digits, frame and call.
 ghost use Rattle.design.specs.Table.{loan_in, SameTables};
-ghost use Rattle.loading.specs.Loads.{Heard};
+ghost use Rattle.loading.specs.Loads.{LineTaken};
 
 use super::calls::{MOST_LISTED, call_of};
 use book::Book;
@@ -11,8 +11,8 @@ use refusals::Refusal;
 use text::digits::LONGEST;
 
 // Does what a line asks; one that is refused, by its digits, its frame or the book, changes nothing.
-pub fn hear(book: &mut Book, tables: &mut Tables<'_>, line: &[u8]) -> Result<Answer, Refusal>
-    ensures line { Heard book.old (loan_in tables.old) line.now book.new (loan_in tables.new) result }
+pub fn take_line(book: &mut Book, tables: &mut Tables<'_>, line: &[u8]) -> Result<Answer, Refusal>
+    ensures line { LineTaken book.old (loan_in tables.old) line.now book.new (loan_in tables.new) result }
     ensures same_tables { SameTables tables.old tables.new }
 {
     let mut room = [0; LONGEST];

@@ -1,9 +1,9 @@
--- What the book makes of a call is what hearing its line makes.
+-- What the book makes of a call is what its line makes.
 use Rattle.frames.specs.Contents.{content_of}
 use Rattle.design.specs.Calls.{asked}
 use Rattle.design.specs.Table.{loan_in}
 use Rattle.loading.proofs.Steps.{through}
-use Rattle.loading.proofs.hear.hear.Goals as goal
+use Rattle.loading.proofs.line.take_line.Goals as goal
 
 pub returns-clause-line : goal.returns-clause-line
 returns-clause-line c =
