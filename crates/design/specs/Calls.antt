@@ -1,5 +1,6 @@
 -- The calls on a book.
-use Rattle.std.specs.Prelude.{ℕ, Bool, true, false, ◌||◌, List, [], ◌∷◌}
+use Rattle.std.specs.Prelude.{ℕ, Bool, true, false, List, [], ◌∷◌}
+use Rattle.std.specs.List.{list_any}
 use Rattle.schedule.specs.Clock.{Clock}
 use Rattle.schedule.specs.Made.{drawn}
 use Rattle.design.specs.declared.calls.Call.{Call}
@@ -53,6 +54,6 @@ is_state sealed unopened = false
 is_state sealed draft = false
 is_state sealed sealed = true
 
+-- a state that is one of these
 abbrev pub among : State → List State → Bool
-among s [] = false
-among s (x ∷ xs) = is_state s x || among s xs
+among s states = list_any (is_state s) states

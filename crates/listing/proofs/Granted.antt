@@ -1,5 +1,6 @@
 -- The text of a table whose rows are the first of those lent: where it is refused, and where it is written.
 use Rattle.std.proofs.Common.{◌≡◌, ℕ, zero, suc, ◌+◌, ◌<◌, ◌≤◌, Bool, true, false, ◌||◌, ltb, ◌⊎◌, List, [], ◌∷◌, ◌++◌, map, length, take, drop, Ok, Err, sym, refl, ap, ◌∙◌, arith}
+use Rattle.std.specs.List.{flat_map}
 use Rattle.std.proofs.lemmas.Bool.Decides.{nat_tests}
 use Rattle.refusals.specs.declared.Refusal.TheVariants.{Short}
 use Rattle.schedule.specs.Clock.{Clock}
@@ -13,7 +14,7 @@ use Rattle.design.proofs.Standing.{all_stand}
 use Rattle.states.specs.declared.counts.Counts.{Counts}
 use Rattle.states.specs.Views.{table_of}
 use Rattle.states.proofs.Seen.{short_seen}
-use Rattle.loading.specs.Writing.{joined, schedule_frame, node_frame, feed_frames, couple_frame, frames_of, lines_for, text_of}
+use Rattle.loading.specs.Writing.{schedule_frame, node_frame, feed_frames, couple_frame, frames_of, lines_for, text_of}
 use Rattle.loading.specs.Rebuilding.{AllRebuild}
 use Rattle.loading.proofs.Rebuild.{stands_rebuild}
 use Rattle.listing.specs.declared.lines.Listing.{Listing}
@@ -35,7 +36,7 @@ pub record Granted (n : Counts) (loan : Loan) (xs : List Node) (ks : List Coupli
 
 -- the frames of a clock, of nodes and of couplings
 abbrev frames_for : Clock → List Node → List Coupling → List Content
-frames_for c xs ks = schedule_frame c ∷ (joined (map node_frame xs) ++ (feed_frames 0 xs ++ map couple_frame ks))
+frames_for c xs ks = schedule_frame c ∷ (flat_map node_frame xs ++ (feed_frames 0 xs ++ map couple_frame ks))
 
 -- a table too short for the rows that are granted
 short_true : (a b x y : ℕ) (rest : Bool) → (x < a) ⊎ (y < b) → ((ltb x (a + 0) || ltb y (b + 0)) || rest) ≡ true

@@ -1,31 +1,23 @@
--- Lists joined one after another, and the lines of frames: one list more, and how long they are.
-use Rattle.std.proofs.Common.{◌≡◌, ℕ, suc, ◌+◌, ◌-◌, ◌*◌, ◌^◌, ◌<◌, List, [], ◌∷◌, ◌++◌, map, length, get_or, take, drop, min, Ok, Err, sym, refl, ap, ◌∙◌, subst, add-zero, arith}
-use Rattle.std.proofs.lemmas.List.{append_assoc, append-nil, length-append, length-take-le, map-append, map_more, take_more, take_at, take-append-drop}
+-- The lines of frames, put one after another: one more, and how long they are.
+use Rattle.std.proofs.Common.{◌≡◌, ℕ, suc, ◌+◌, ◌-◌, ◌*◌, ◌^◌, ◌<◌, List, [], ◌∷◌, ◌++◌, length, get_or, take, drop, min, Ok, Err, sym, refl, ap, ◌∙◌, subst, add-zero, arith}
+use Rattle.std.specs.List.{flat_map}
+use Rattle.std.proofs.lemmas.List.{append_assoc, append-nil, length-append, length-take-le, take_more, take_at, take-append-drop}
+use Rattle.std.proofs.lemmas.Grind.{flat_map-append}
 use Rattle.std.proofs.lemmas.Slice.{drop-append-drop}
 use Rattle.refusals.specs.declared.Refusal.{Refusal}
 use Rattle.text.specs.Spelling.{line_for, SpelledAt}
 use Rattle.text.proofs.Spelled.{length_line}
 use Rattle.frames.specs.Frames.{Content, encode}
 use Rattle.design.specs.declared.nodes.Node.{Node}
-use Rattle.loading.specs.Writing.{joined, feed_frame, feed_frames, line_of, lines_for}
+use Rattle.loading.specs.Writing.{feed_frame, feed_frames, line_of, lines_for}
 use Rattle.listing.specs.declared.lines.Listing.{Listing}
 use Rattle.listing.specs.Appending.{end_with, Appends}
 
--- lists behind lists
-joined-append : {X : Type 0} (xss yss : List (List X)) → joined (xss ++ yss) ≡ joined xss ++ joined yss
-joined-append [] yss = refl
-joined-append (xs ∷ xss) yss = ap (λ l. xs ++ l) (joined-append xss yss) ∙ sym (append_assoc xs (joined xss) (joined yss))
-
 -- the items of one element more
-pub joined-more : {X Y : Type 0} (f : X → List Y) (xs : List X) (k : ℕ) (d : X) → k < length xs → joined (map f (take (k + 1) xs)) ≡ joined (map f (take k xs)) ++ f (get_or xs k d)
-joined-more f xs k d h =
-    let before = map f (take k xs) in
-    let item = f (get_or xs k d) in
-    ap joined (map_more f xs k d h) ∙ (joined-append before (item ∷ []) ∙ ap (λ l. joined before ++ l) (append-nil item))
-
--- the lines of frames behind frames
-lines_append : (fs gs : List Content) → lines_for (fs ++ gs) ≡ lines_for fs ++ lines_for gs
-lines_append fs gs = ap joined (map-append line_of fs gs) ∙ joined-append (map line_of fs) (map line_of gs)
+pub items_more : {X Y : Type 0} (f : X → List Y) (xs : List X) (k : ℕ) (d : X) → k < length xs → flat_map f (take (k + 1) xs) ≡ flat_map f (take k xs) ++ f (get_or xs k d)
+items_more f xs k d h =
+    let item = get_or xs k d in
+    ap (flat_map f) (take_more xs k d h) ∙ (flat_map-append f (take k xs) (item ∷ []) ∙ ap (λ l. flat_map f (take k xs) ++ l) (append-nil (f item)))
 
 -- the feeds of one node more
 feeds_push : (j : ℕ) (xs : List Node) (x : Node) → feed_frames j (xs ++ x ∷ []) ≡ feed_frames j xs ++ feed_frame (j + length xs) x
@@ -55,7 +47,7 @@ appends_then {fs} {gs} {s} {t} {u} first then =
     let F = lines_for fs in
     let G = lines_for gs in
     let a = s.out.now in
-    let both = lines_append fs gs in
+    let both = flat_map-append line_of fs gs in
     let long : length (lines_for (fs ++ gs)) ≡ length F + length G = ap length both ∙ length-append F G in
     let counted = first.counted in
     let more = then.counted in

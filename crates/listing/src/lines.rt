@@ -1,9 +1,9 @@
 // The lines of a table's text, written one after another.
 ghost use Rattle.std.specs.Prelude.{◌≡◌, ◌≤◌, None, [], ◌∷◌, ◌++◌, map, length, take, slice_index};
-ghost use Rattle.std.specs.List.{range_with_len};
+ghost use Rattle.std.specs.List.{flat_map, range_with_len};
 ghost use Rattle.frames.specs.Frames.{bytes_in};
 ghost use Rattle.frames.specs.Contents.{content_of, unwritten};
-ghost use Rattle.loading.specs.Writing.{joined, schedule_frame, node_frame, feed_frame, feed_frames, couple_frame};
+ghost use Rattle.loading.specs.Writing.{schedule_frame, node_frame, feed_frame, feed_frames, couple_frame};
 ghost use Rattle.listing.specs.Appending.{Appends};
 
 use design::couplings::Coupling;
@@ -64,7 +64,6 @@ impl<'a> Listing<'a> {
         });
     }
 
-    #[tactic(auto, using(crate::proofs::Bytes::flattened_is))]
     fn put_node(&mut self, node: &Node)
         ensures { Appends (node_frame node.now) self.old self.new }
     {
@@ -141,7 +140,7 @@ impl<'a> Listing<'a> {
     #[tactic(auto, using(crate::proofs::Joins::appends_none))]
     pub(crate) fn put_table(&mut self, schedule: &Schedule, nodes: &[Node], couplings: &[Coupling])
         requires { length nodes.now ≤ 4096 }
-        ensures { Appends (schedule_frame schedule.now ∷ (joined (map node_frame nodes.now) ++ (feed_frames 0 nodes.now ++ map couple_frame couplings.now))) self.old self.new }
+        ensures { Appends (schedule_frame schedule.now ∷ (flat_map node_frame nodes.now ++ (feed_frames 0 nodes.now ++ map couple_frame couplings.now))) self.old self.new }
     {
         self.put_schedule(schedule);
         // Three loops, since the lines of a node, of a feed and of a coupling are put by methods of their own.

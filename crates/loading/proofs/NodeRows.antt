@@ -1,6 +1,6 @@
 -- The node frames of a table that stands make its rows, with no latch fed.
 use Rattle.std.proofs.Common.{◌≡◌, ℕ, ◌<◌, ◌≤◌, min, true, false, List, [], ◌∷◌, ◌++◌, map, length, get_or, Some, None, sym, refl, ap, arith}
-use Rattle.std.specs.List.{All}
+use Rattle.std.specs.List.{flat_map, All}
 use Rattle.std.proofs.lemmas.List.{map_push, take_all, length-map, take_at, drop_at}
 use Rattle.std.proofs.lemmas.List.Folds.{list_any_none}
 use Rattle.std.proofs.lemmas.List.Elements.{All-from_get_or, All-map, All-take, All-drop}
@@ -16,8 +16,8 @@ use Rattle.design.specs.Table.{Table, Lent, draft, most_nodes, most_couplings}
 use Rattle.design.specs.Calls.{input, gate, latch}
 use Rattle.design.specs.Tests.{is_other, any_other}
 use Rattle.design.specs.SoFar.{RowStands}
-use Rattle.loading.specs.Writing.{joined, node_frame}
-use Rattle.loading.proofs.Items.{bytes_joined, length-joined, sources_back}
+use Rattle.loading.specs.Writing.{node_frame}
+use Rattle.loading.proofs.Items.{bytes_items, length_items, sources_back}
 use Rattle.loading.proofs.Outcomes.{Makes, makes_one, makes_each}
 
 -- a draft under a clock that takes as many rows as are lent, up to the most
@@ -62,10 +62,10 @@ load_node c l count xs (Input phase earliest latest) few all lent most h =
     makes_one (input phase earliest latest) (grind (arith, nat_tests), grind (arith, nat_tests), tt) refl (grind (arith, nat_tests)) refl
 load_node c l count xs (Gate phase least greatest sources) few all lent most h =
     let ks = sources_in sources in
-    let len = length-joined (bytes_in 2) 2 ks (bytes_in-length 2) in
+    let len = length_items (bytes_in 2) 2 ks (bytes_in-length 2) in
     let nodes = no_others l (drafted c l xs []) ks (omega arith) all h.3 in
     makes_one (gate phase least greatest ks)
-    (grind (arith, nat_tests), grind (arith, nat_tests), bytes_joined (bytes_in 2) ks (λ x. omega arith))
+    (grind (arith, nat_tests), grind (arith, nat_tests), bytes_items (bytes_in 2) ks (λ x. omega arith))
     (ap (λ ys. Some (gate phase least greatest ys)) (sources_back ks (λ i lt. omega (arith, h.3 i lt))))
     (grind (arith, nat_tests))
     (ap (λ s. drafted c l (xs ++ Gate phase least greatest s ∷ []) []) (sym h.2))
@@ -81,9 +81,9 @@ module _ (c : Clock) (l : Lent) (xs : List Node) (rows : (k : ℕ) → k < lengt
       (rw (take_at done left (length done) refl) at (All-take Live (length done) (done ++ left) all), rw (drop_at done left (length done) refl) at (All-drop Live (length done) (done ++ left) all))
 
   -- all node frames make all rows
-  pub load_nodes : c.phases ≤ 16 → length xs ≤ l.nodes → length xs ≤ most_nodes → Makes l (drafted c l [] []) (joined (map node_frame xs)) (drafted c l (map unfed xs) [])
+  pub load_nodes : c.phases ≤ 16 → length xs ≤ l.nodes → length xs ≤ most_nodes → Makes l (drafted c l [] []) (flat_map node_frame xs) (drafted c l (map unfed xs) [])
   load_nodes few lent most =
-      makes_each l (λ done left. drafted c l (map unfed done) []) (λ k x. node_frame x) (λ k ys. joined (map node_frame ys)) Free (RowStands c (length xs)) xs (λ k. refl) (λ k y ys. refl) rows
+      makes_each l (λ done left. drafted c l (map unfed done) []) (λ k x. node_frame x) (λ k ys. flat_map node_frame ys) Free (RowStands c (length xs)) xs (λ k. refl) (λ k y ys. refl) rows
       (λ done left x e below h.
       let nodes = All-map IsNode unfed done (λ k d h. ((live_parts done (x ∷ left) e).0 k d h).1) in
       let wide : length (map unfed done) ≡ length done = length-map done unfed in

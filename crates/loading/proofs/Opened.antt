@@ -1,6 +1,6 @@
 -- The schedule frame of a clock asks for that clock, and opens a book under it.
 use Rattle.std.proofs.Common.{◌≡◌, ℕ, ◌+◌, ◌*◌, ◌^◌, ◌<◌, ◌≤◌, Bool, true, List, [], ◌∷◌, ◌++◌, map, length, get_or, take, Some, sym, refl, ap, ◌∙◌, ⊎_elim, arith}
-use Rattle.std.specs.List.{range_with_len, list_all}
+use Rattle.std.specs.List.{flat_map, range_with_len, list_all}
 use Rattle.std.proofs.lemmas.List.{places, length-take-le, get_or-take}
 use Rattle.std.proofs.lemmas.List.FromFn.{length-range_with_len, get_or-range_with_len, fill_by_all}
 use Rattle.std.proofs.lemmas.List.Sums.{AllPass-from_list_all}
@@ -13,8 +13,8 @@ use Rattle.frames.specs.Frames.{bytes_in, number_at}
 use Rattle.design.specs.Table.{Lent, unopened_table, opening}
 use Rattle.design.specs.Calls.{open_with}
 use Rattle.reading.specs.Clocks.{starts_in, widths_in, clock_in}
-use Rattle.loading.specs.Writing.{joined, phase_bytes, schedule_frame}
-use Rattle.loading.proofs.Items.{number_past, bytes_joined, length-joined, number_among}
+use Rattle.loading.specs.Writing.{phase_bytes, schedule_frame}
+use Rattle.loading.proofs.Items.{number_past, bytes_items, length_items, number_among}
 use Rattle.loading.proofs.Outcomes.{Sound, Makes, makes_one}
 
 -- a test that the entries in use meet holds at each of their places
@@ -41,11 +41,11 @@ phase_length c k = omega arith
 
 -- the bytes of a clock's phases
 abbrev phases_of : Clock → List ℕ
-phases_of c = joined (map (phase_bytes c) (range_with_len 0 c.phases))
+phases_of c = flat_map (phase_bytes c) (range_with_len 0 c.phases)
 
 -- how many they are
 phases_length : (c : Clock) → length (phases_of c) ≡ 8 * c.phases
-phases_length c = omega (arith, length-joined (phase_bytes c) 8 (range_with_len 0 c.phases) (phase_length c), length-range_with_len 0 c.phases)
+phases_length c = omega (arith, length_items (phase_bytes c) 8 (range_with_len 0 c.phases) (phase_length c), length-range_with_len 0 c.phases)
 
 -- Sixteen figures, with zeros past the last phase, are read from the bytes of the phases: each where it stands in those of its phase, and the zeros past the end.
 places_back : (c : Clock) → lawful c ≡ true → (xs : List ℕ) (place : ℕ → ℕ) (off : ℕ) (pre post : ℕ → List ℕ)
@@ -81,7 +81,7 @@ clock_back c law clear =
 schedule_sound : (c : Clock) → lawful c ≡ true → Sound (schedule_frame c)
 schedule_sound c law =
     let len = phases_length c in
-    (omega (arith, figures_small c law, phases_bounds c law), grind (arith, nat_tests), bytes_joined (phase_bytes c) (range_with_len 0 c.phases) (λ k. omega arith))
+    (omega (arith, figures_small c law, phases_bounds c law), grind (arith, nat_tests), bytes_items (phase_bytes c) (range_with_len 0 c.phases) (λ k. omega arith))
 
 -- the schedule frame opens the book
 pub load_schedule : (l : Lent) (old c : Clock) → lawful c ≡ true → cleared c ≡ c → Makes l (unopened_table old) (schedule_frame c ∷ []) (opening c l)
