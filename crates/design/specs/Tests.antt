@@ -28,7 +28,7 @@ no_phase t phase = not (has_phase t.clock phase)
 abbrev pub is_reversed : ℕ → ℕ → Bool
 is_reversed from to = nat_lt to from
 
--- of so many nodes there is none of this number, or its row, if it is among those given, is of a kind that is not allowed
+-- Of so many nodes there is none of this number, or its row, if it is among those given, is of a kind that is not allowed.
 abbrev pub other_in : (Node → Bool) → ℕ → List Node → ℕ → Bool
 other_in allowed count rows k = nat_le count k || (nat_lt k (length rows) && not (allowed (slice_index_or rows k Free)))
 
@@ -36,11 +36,11 @@ other_in allowed count rows k = nat_le count k || (nat_lt k (length rows) && not
 abbrev pub is_other : (Node → Bool) → Lent → Table → ℕ → Bool
 is_other allowed l t k = other_in allowed (length t.nodes) (lent_nodes l t) k
 
--- one of these nodes is such
+-- there is none of one of these numbers, or it is of a kind that is not allowed
 abbrev pub any_other : (Node → Bool) → Lent → Table → List ℕ → Bool
 any_other allowed l t ks = list_any (is_other allowed l t) ks
 
--- a gate has not 1 to 4 sources
+-- not 1 to 4 sources
 abbrev pub wrong_fan : List ℕ → Bool
 wrong_fan sources = not (has_fan sources)
 

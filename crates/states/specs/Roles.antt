@@ -16,7 +16,7 @@ allows Any x = is_node x
 allows Latch x = is_latch x
 allows Victim x = is_victim x
 
--- among so many granted nodes there is none of one of these numbers, or its row, where the table has it, does not suit
+-- of so many nodes there is none of one of these numbers, or its row, if it is among those given, does not suit
 abbrev pub any_other_in : (Node → Bool) → ℕ → List Node → List ℕ → Bool
 any_other_in allowed count rows ks = list_any (other_in allowed count rows) ks
 
