@@ -43,6 +43,7 @@ taken_in seal = draft ∷ []
 taken_in reopen = sealed ∷ []
 taken_in (retime clock) = draft ∷ sealed ∷ []
 
+-- two states that are the same
 abbrev pub is_state : State → State → Bool
 is_state unopened unopened = true
 is_state unopened draft = false

@@ -48,6 +48,7 @@ is_node (Input phase earliest latest) = true
 is_node (Gate phase least greatest sources) = true
 is_node (Latch phase least greatest setup hold source) = true
 
+-- a row that holds a latch
 abbrev pub is_latch : Node → Bool
 is_latch Free = false
 is_latch (Input phase earliest latest) = false

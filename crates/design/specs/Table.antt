@@ -31,10 +31,11 @@ pub record Lent : Type 0 where
   pub nodes : ℕ
   pub couplings : ℕ
 
--- the most nodes and couplings that a book takes
+-- the most nodes that a book takes
 abbrev pub most_nodes : ℕ
 most_nodes = 4096
 
+-- the most couplings that a book takes
 abbrev pub most_couplings : ℕ
 most_couplings = 1024
 
@@ -46,10 +47,11 @@ unopened_table clock = record { clock = clock; state = unopened; nodes = []; cou
 abbrev pub opening : Clock → Lent → Table
 opening clock lent = record { clock = clock; state = draft; nodes = []; couplings = []; node_room = min lent.nodes most_nodes; coupling_room = min lent.couplings most_couplings }
 
--- the granted rows that the lent tables have
+-- the granted nodes whose rows the lent table has
 abbrev pub lent_nodes : Lent → Table → List Node
 lent_nodes lent t = take lent.nodes t.nodes
 
+-- the granted couplings whose rows the lent table has
 abbrev pub lent_couplings : Lent → Table → List Coupling
 lent_couplings lent t = take lent.couplings t.couplings
 
@@ -63,6 +65,7 @@ pub record Loan : Type 0 where
 abbrev pub loan_in : Tables → Loan
 loan_in t = record { schedule = t.schedule.now; nodes = t.nodes.now; couplings = t.couplings.now }
 
+-- how many rows the tables of a loan have
 abbrev pub lent_in : Loan → Lent
 lent_in loan = record { nodes = length loan.nodes; couplings = length loan.couplings }
 

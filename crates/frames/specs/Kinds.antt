@@ -42,6 +42,7 @@ item_width Verify = 0
 item_width Seal = 0
 item_width Reopen = 0
 
+-- widths, summed
 abbrev pub total : List ℕ → ℕ
 total [] = 0
 total (w ∷ ws) = w + total ws

@@ -5,6 +5,7 @@ use Rattle.frames.specs.declared.NotAFrame.{NotAFrame}
 use Rattle.frames.specs.declared.rules.Rule.{Rule}
 use Rattle.frames.specs.declared.rules.Rule.TheVariants.{Never, ThreeOccurrences, Always}
 
+-- the byte that stands for a rule
 abbrev pub rule_byte : Rule → ℕ
 rule_byte Never = 0
 rule_byte ThreeOccurrences = 1

@@ -3,6 +3,7 @@ use Rattle.std.specs.Prelude.{ℕ}
 use Rattle.refusals.specs.declared.Refusal.{Refusal}
 use Rattle.refusals.specs.declared.Refusal.TheVariants.{Full, Phase, Span, Figure, Fan, Node, Pair, Assist, Clock, Unfed, Short, Digits, Frame, Order}
 
+-- the number of a refusal
 abbrev pub number_of : Refusal → ℕ
 number_of Full = 1
 number_of Phase = 2

@@ -5,7 +5,7 @@ use Rattle.refusals.specs.declared.Refusal.TheVariants.{Full, Short}
 use Rattle.refusals.specs.Numbers.{number_of}
 use Rattle.schedule.specs.Clock.{Clock}
 use Rattle.text.specs.declared.lines.Lines.{Lines}
-use Rattle.text.specs.Lines.{lines_of, left}
+use Rattle.text.specs.Lines.{lines_of, Reads}
 use Rattle.text.specs.Spelling.{line_for}
 use Rattle.frames.specs.Frames.{bytes_in}
 use Rattle.design.specs.declared.calls.Answer.{Answer}
@@ -43,10 +43,6 @@ greatest_text = 65536
 -- what is printed for a text whose lines are put to a book that is not opened; a text that is too long is refused whole
 abbrev pub output_of : Lent → Clock → List ℕ → List ℕ
 output_of l clock text = cond (nat_le (length text) greatest_text) (output l (unopened_table clock) (lines_of text)) (line_for (number_of Full ∷ []))
-
--- a reader that has handed out nothing of a text
-abbrev pub Reads : List ℕ → Lines → Type 0
-Reads text lines = (left lines ≡ text) × (lines.count ≡ 0)
 
 -- admitting a text hands out its reader: its output is that of its lines, or of the refusal
 abbrev pub Admitted : List ℕ → Result Lines Refusal → Type 0

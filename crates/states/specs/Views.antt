@@ -11,6 +11,7 @@ use Rattle.states.specs.declared.OpenBook.{OpenBook}
 use Rattle.states.specs.declared.stages.Editable.{Editable}
 use Rattle.states.specs.declared.stages.Frozen.{Frozen}
 
+-- a loan of a schedule and of tables that hold these rows
 abbrev pub loan_of : Clock → List Node → List Coupling → Loan
 loan_of schedule nodes couplings = record { schedule = schedule; nodes = nodes; couplings = couplings }
 
@@ -26,12 +27,18 @@ table_of state n loan =
       coupling_room = n.coupling_room;
     }
 
+-- how many rows an open book has granted, and how many it takes
+abbrev pub counts_in : {S : Type 0} → OpenBook S → Counts
+counts_in b = b.counts
+
 -- the table that an open book says in a state
 abbrev pub open_table : {S : Type 0} → State → OpenBook S → Loan → Table
-open_table state b loan = table_of state b.counts loan
+open_table state b loan = table_of state (counts_in b) loan
 
+-- the table that a draft says
 abbrev pub draft_table : OpenBook Editable → Loan → Table
 draft_table = open_table draft
 
+-- the table that a sealed table says
 abbrev pub sealed_table : OpenBook Frozen → Loan → Table
 sealed_table = open_table sealed

@@ -14,6 +14,7 @@ is_digit c = (nat_le 48 c && nat_le c 57) || (nat_le 65 c && nat_le c 70)
 abbrev pub digit_value : ℕ → ℕ
 digit_value c = cond (nat_le c 57) (c - 48) (c - 55)
 
+-- nothing but digits
 abbrev pub every_digit : List ℕ → Bool
 every_digit cs = list_all is_digit cs
 

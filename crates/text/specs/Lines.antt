@@ -3,6 +3,7 @@ use Rattle.std.specs.Prelude.{◌≡◌, ℕ, ◌+◌, cond, List, [], ◌∷◌
 use Rattle.text.specs.declared.lines.Lines.{Lines}
 use Rattle.text.specs.declared.lines.Line.{Line}
 
+-- the character that ends a line
 abbrev pub line_feed : ℕ
 line_feed = 10
 
@@ -19,6 +20,10 @@ lines_of (c ∷ cs) = cond (c == line_feed) ([] ∷ lines_of cs) (before c (line
 -- the part of its text that a reader has not handed out
 abbrev pub left : Lines → List ℕ
 left r = drop r.place r.text.now
+
+-- a reader that has handed out nothing of a text
+abbrev pub Reads : List ℕ → Lines → Type 0
+Reads text r = (left r ≡ text) × (r.count ≡ 0)
 
 -- the next line is the first of those that are left, and its number is one more than how many were handed out before it
 abbrev pub Handed : Lines → Lines → Option Line → Type 0

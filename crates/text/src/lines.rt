@@ -21,10 +21,10 @@ pub struct Line<'a> {
 
 impl<'a> Lines<'a> {
     ghost use Rattle.std.specs.Prelude.{◌≡◌, ◌==◌, position};
-    ghost use Rattle.text.specs.Lines.{line_feed, left};
+    ghost use Rattle.text.specs.Lines.{line_feed, Reads};
 
     pub fn new(text: &'a [u8]) -> Lines<'a>
-        ensures { (left result ≡ text.now) × (result.count ≡ 0) }
+        ensures { Reads text.now result }
     {
         Lines {
             text,
