@@ -1,0 +1,42 @@
+// Sets of flags that are closed, and the rounds that find the least of them, over every monotone system. Each function
+// here stands for the theorem that its contract names.
+#![tactic(auto)]
+
+ghost use Rattle.std.specs.Prelude.{◌≡◌};
+ghost use Rattle.closing.specs.Theorems.{RoundsClose, RoundsUnique, RoundsMean, FromNothing};
+
+pub mod theorem;
+
+use theorem::Theorem;
+
+// Rounds end, with an outcome that is right.
+pub fn rounds_close() -> Theorem
+    ensures theorem { RoundsClose }
+    ensures value { result ≡ Theorem.RoundsClose }
+{
+    Theorem::RoundsClose
+}
+
+// Rounds from the same set are equally many, with the same outcome.
+pub fn rounds_unique() -> Theorem
+    ensures theorem { RoundsUnique }
+    ensures value { result ≡ Theorem.RoundsUnique }
+{
+    Theorem::RoundsUnique
+}
+
+// Whatever rounds were made are few, and their outcome is right.
+pub fn rounds_mean() -> Theorem
+    ensures theorem { RoundsMean }
+    ensures value { result ≡ Theorem.RoundsMean }
+{
+    Theorem::RoundsMean
+}
+
+// All of this holds of rounds that start without flags.
+pub fn from_nothing() -> Theorem
+    ensures theorem { FromNothing }
+    ensures value { result ≡ Theorem.FromNothing }
+{
+    Theorem::FromNothing
+}
