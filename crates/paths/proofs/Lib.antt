@@ -1,0 +1,4 @@
+-- The lemmas of this crate.
+pub mod Steps
+pub mod Loops
+pub mod ShortPaths
