@@ -1,0 +1,1 @@
+-- The lemmas of this crate stand in specs/Laws, since impls name them.

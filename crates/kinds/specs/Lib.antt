@@ -1,0 +1,3 @@
+-- The definitions of this crate, in reading order, and the laws that its impls name.
+pub mod Arrivals
+pub mod Laws
