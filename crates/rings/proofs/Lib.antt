@@ -1,0 +1,5 @@
+-- The lemmas of this crate.
+pub mod Reach
+pub mod OneSweep
+pub mod Latest
+pub mod Earliest
