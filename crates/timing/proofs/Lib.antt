@@ -1,0 +1,4 @@
+-- The lemmas of this crate.
+pub mod Grow
+pub mod Sound
+pub mod Reached

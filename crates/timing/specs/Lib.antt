@@ -1,0 +1,7 @@
+-- The definitions of this crate, in reading order.
+pub mod Connections
+pub mod Delays
+pub mod Figures
+pub mod Windows
+pub mod Courses
+pub mod Theorems
