@@ -13,19 +13,13 @@ use Rattle.design.specs.Table.{Table, Loan, draft, lent_in, first}
 use Rattle.design.proofs.Standing.{all_stand}
 use Rattle.states.specs.declared.counts.Counts.{Counts}
 use Rattle.states.specs.Views.{table_of}
-use Rattle.states.proofs.Seen.{short_seen}
+use Rattle.states.proofs.Seen.{first_taken, short_seen}
 use Rattle.loading.specs.Writing.{schedule_frame, node_frame, feed_frames, couple_frame, frames_of, lines_for, text_of}
 use Rattle.loading.specs.Rebuilding.{AllRebuild}
 use Rattle.loading.proofs.Rebuild.{stands_rebuild}
 use Rattle.listing.specs.declared.lines.Listing.{Listing}
 use Rattle.listing.specs.Appending.{greatest_end, end_with, Appends}
 use Rattle.listing.specs.Listed.{WrittenTo}
-
--- the first rows of a table that has as many
-first_taken : {X : Type 0} (d : X) (n : ℕ) (xs : List X) → n ≤ length xs → first d n xs ≡ take n xs
-first_taken d zero xs h = refl
-first_taken d (suc n) [] h = absurd (omega arith)
-first_taken d (suc n) (x ∷ xs) h = ap (λ l. x ∷ l) (first_taken d n xs (omega arith))
 
 -- the first rows of both lent tables, as many as are granted
 pub record Granted (n : Counts) (loan : Loan) (xs : List Node) (ks : List Coupling) : Type 0 where

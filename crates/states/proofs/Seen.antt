@@ -24,6 +24,12 @@ take-first d zero (x ∷ xs) = refl
 take-first d (suc n) [] = refl
 take-first d (suc n) (x ∷ xs) = ap (λ l. x ∷ l) (take-first d n xs)
 
+-- the first rows of a table that has as many
+pub first_taken : {X : Type 0} (d : X) (n : ℕ) (xs : List X) → n ≤ length xs → first d n xs ≡ take n xs
+first_taken d zero xs h = refl
+first_taken d (suc n) [] h = absurd (omega arith)
+first_taken d (suc n) (x ∷ xs) h = ap (λ l. x ∷ l) (first_taken d n xs (omega arith))
+
 first_suc_set : {X : Type 0} (d : X) (n : ℕ) (xs : List X) (y : X) → n < length xs → first d (suc n) (set xs n y) ≡ first d n xs ++ y ∷ []
 first_suc_set d zero [] y h = absurd (omega arith)
 first_suc_set d zero (x ∷ xs) y h = refl

@@ -1,0 +1,10 @@
+-- The definitions of this crate, in reading order.
+pub mod Edges
+pub mod Delays
+pub mod Effective
+pub mod Seen
+pub mod Rings
+pub mod Found
+pub mod Lending
+pub mod Written
+pub mod Answers

@@ -1,0 +1,18 @@
+// When each node of a design may switch under a set of couplings.
+#![tactic(auto)]
+
+pub mod calls;
+mod circuit;
+mod column;
+mod connections;
+pub mod edges;
+mod effective;
+mod find;
+pub mod flags;
+pub mod found;
+mod rows;
+mod settle;
+mod sweep;
+#[cfg(test)]
+mod tests;
+mod write;

@@ -1,0 +1,58 @@
+// The rows that a call works on.
+ghost use Rattle.states.specs.Views.{loan_of, open_table};
+ghost use Rattle.windows.specs.Lending.{RowsOf, IsCircuit};
+
+use super::circuit::Circuit;
+use super::effective::Effective;
+use super::flags::Flag;
+use design::couplings::Coupling;
+use design::nodes::Node;
+use refusals::Refusal;
+use schedule::Schedule;
+use states::OpenBook;
+use states::stages::Stage;
+
+// The granted rows of the lent tables, and their schedule.
+#[derive(Clone, Copy)]
+pub(crate) struct Rows<'a> {
+    pub(crate) schedule: &'a Schedule,
+    pub(crate) nodes: &'a [Node],
+    pub(crate) couplings: &'a [Coupling],
+}
+
+impl<'a> Rows<'a> {
+    // The circuit of the rows with these delays.
+    pub(crate) fn circuit(&self, delays: &'a Effective) -> Circuit<'a>
+        ensures { IsCircuit self.now delays.now.places result }
+    {
+        Circuit {
+            schedule: self.schedule,
+            nodes: self.nodes,
+            delays: delays.list(),
+        }
+    }
+}
+
+// The rows of a book; refused where a lent table has fewer than are granted, or where there are fewer flags than
+// couplings or fewer places than nodes.
+#[tactic(auto, using(states::proofs::Seen::table, states::proofs::Seen::first_taken))]
+pub(crate) fn rows_of<'a, S: Stage>(
+    book: &OpenBook<S>,
+    schedule: &'a Schedule,
+    nodes: &'a [Node],
+    couplings: &'a [Coupling],
+    flags: &[Flag],
+    places: usize,
+) -> Result<Rows<'a>, Refusal>
+    ensures { RowsOf (open_table S.state book.now) (loan_of schedule.now nodes.now couplings.now) flags.now places result }
+{
+    let counts = book.counts();
+    if flags.len() < counts.couplings || places < counts.nodes {
+        return Err(Refusal::Short);
+    }
+    Ok(Rows {
+        schedule,
+        nodes: nodes.get(..counts.nodes).ok_or(Refusal::Short)?,
+        couplings: couplings.get(..counts.couplings).ok_or(Refusal::Short)?,
+    })
+}
