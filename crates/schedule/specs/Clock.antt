@@ -59,9 +59,9 @@ lawful c =
 abbrev pub has_phase : Clock → ℕ → Bool
 has_phase c i = between 1 i c.phases
 
--- the start of phase i
+-- the start of phase i; a phase that the clock does not have starts at 0
 abbrev pub start : Clock → ℕ → ℤ
-start c i = pos (slice_index c.starts (i - 1))
+start c i = cond (has_phase c i) (pos (slice_index c.starts (i - 1))) (pos 0)
 
 -- how long phase i stays open
 abbrev pub width : Clock → ℕ → ℤ
