@@ -13,6 +13,10 @@ empty c = false
 abbrev pub Within : ℕ → Flags → Flags → Type 0
 Within n S T = (c : ℕ) → c < n → S c ≡ true → T c ≡ true
 
+-- two sets that have the same flags below n
+abbrev pub Same : ℕ → Flags → Flags → Type 0
+Same n S T = (c : ℕ) → c < n → S c ≡ T c
+
 -- the number of flags that are set, of those below n
 abbrev pub count : ℕ → Flags → ℕ
 count zero S = 0

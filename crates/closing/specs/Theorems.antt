@@ -1,32 +1,32 @@
--- What holds of the rounds of every system.
+-- What holds of the rounds of every system that tells by yes and no what is bounded and what is seen.
 use Rattle.std.specs.Prelude.{◌≡◌, ℕ, ◌+◌, ◌≤◌}
 use Rattle.closing.specs.Sets.{Flags, empty, count}
-use Rattle.closing.specs.Systems.{System, Monotone, InEveryClosed}
-use Rattle.closing.specs.Rounds.{Outcome, Rounds, Means}
+use Rattle.closing.specs.Systems.{Decided, decided, Monotone, InEveryClosed}
+use Rattle.closing.specs.Rounds.{Outcome, Rounds, SameOutcome, Means}
 
 -- Rounds end: from a set within every closed set of a monotone system there are some, at most one more than the flags that the set leaves unset, and their outcome is right.
 abbrev pub RoundsClose : Type 0
 RoundsClose =
-    (system : System) → Monotone system → (S : Flags) → InEveryClosed system S →
-    (k : ℕ) × (o : Outcome) × Rounds system S k o × (k + count system.size S ≤ system.size + 1) × Means system S o
+    (d : Decided) → Monotone (decided d) → (S : Flags) → InEveryClosed (decided d) S →
+    (k : ℕ) × (o : Outcome) × Rounds (decided d) S k o × (k + count d.size S ≤ d.size + 1) × Means (decided d) S o
 
--- rounds from the same set are equally many and have the same outcome, in every system, monotone or not
+-- Rounds from the same set are equally many, in every monotone system, and have the same outcome, for the flags that the system has.
 abbrev pub RoundsUnique : Type 0
 RoundsUnique =
-    (system : System) (S : Flags) (k k' : ℕ) (o o' : Outcome) →
-    Rounds system S k o → Rounds system S k' o' → (k ≡ k') × (o ≡ o')
+    (d : Decided) → Monotone (decided d) → (S : Flags) (k k' : ℕ) (o o' : Outcome) →
+    Rounds (decided d) S k o → Rounds (decided d) S k' o' → (k ≡ k') × SameOutcome d.size o o'
 
 -- Whatever rounds were made from a set within every closed set of a monotone system: they are at most one more than the flags that the set leaves unset, and their outcome is right.
 abbrev pub RoundsMean : Type 0
 RoundsMean =
-    (system : System) → Monotone system → (S : Flags) → InEveryClosed system S →
-    (k : ℕ) (o : Outcome) → Rounds system S k o →
-    (k + count system.size S ≤ system.size + 1) × Means system S o
+    (d : Decided) → Monotone (decided d) → (S : Flags) → InEveryClosed (decided d) S →
+    (k : ℕ) (o : Outcome) → Rounds (decided d) S k o →
+    (k + count d.size S ≤ d.size + 1) × Means (decided d) S o
 
 -- The empty set lies within every closed set. So in a monotone system there are rounds from it, and whatever rounds were made from it are at most one more than there are flags, and their outcome is right.
 abbrev pub FromNothing : Type 0
 FromNothing =
-    (system : System) →
-    InEveryClosed system empty
-    × (Monotone system → (k : ℕ) × (o : Outcome) × Rounds system empty k o)
-    × (Monotone system → (k : ℕ) (o : Outcome) → Rounds system empty k o → (k ≤ system.size + 1) × Means system empty o)
+    (d : Decided) →
+    InEveryClosed (decided d) empty
+    × (Monotone (decided d) → (k : ℕ) × (o : Outcome) × Rounds (decided d) empty k o)
+    × (Monotone (decided d) → (k : ℕ) (o : Outcome) → Rounds (decided d) empty k o → (k ≤ d.size + 1) × Means (decided d) empty o)

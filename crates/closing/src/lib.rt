@@ -1,5 +1,5 @@
-// Sets of flags that are closed, and the rounds that find the least of them, over every monotone system. Each function
-// here stands for the theorem that its contract names.
+// Sets of flags that are closed, and the rounds that find the least of them, over every monotone system that tells by
+// yes and no what is bounded and what is seen. Each function here stands for the theorem that its contract names.
 #![tactic(auto)]
 
 ghost use Rattle.std.specs.Prelude.{◌≡◌};
@@ -33,7 +33,7 @@ pub fn rounds_mean() -> Theorem
     Theorem::RoundsMean
 }
 
-// All of this holds of rounds that start without flags.
+// Rounds that start without flags can be made, are few, and their outcome is right.
 pub fn from_nothing() -> Theorem
     ensures theorem { FromNothing }
     ensures value { result ≡ Theorem.FromNothing }

@@ -1,5 +1,5 @@
 -- Rounds are few, and mean what they are to.
-use Rattle.closing.proofs.Runs.{runs_mean}
+use Rattle.closing.proofs.Decides.{runs_mean}
 use Rattle.closing.proofs.rounds_mean.Goals as goal
 
 pub returns-clause-theorem : goal.returns-clause-theorem
