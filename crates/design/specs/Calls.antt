@@ -1,4 +1,4 @@
--- The calls on a book.
+-- The calls that make or change the table of a book.
 use Rattle.std.specs.Prelude.{ℕ, Bool, true, false, List, [], ◌∷◌}
 use Rattle.std.specs.List.{list_any}
 use Rattle.schedule.specs.Clock.{Clock}

@@ -79,11 +79,6 @@ abbrev pub after : Table → List (Lent × Ask) → Table
 after t [] = t
 after t (m ∷ ms) = after (step m.0 t m.1) ms
 
--- the answers to a list of calls, each made of the table that those before it leave
-abbrev pub answers_to : Table → List (Lent × Ask) → List (Result Answer Refusal)
-answers_to t [] = []
-answers_to t (m ∷ ms) = answer_to (refusal m.0 t m.1) (given t m.1) ∷ answers_to (step m.0 t m.1) ms
-
 -- rows past those that a table has granted are as they were
 abbrev pub Beyond : Table → Loan → Loan → Type 0
 Beyond t old new = (drop (length t.nodes) new.nodes ≡ drop (length t.nodes) old.nodes) × (drop (length t.couplings) new.couplings ≡ drop (length t.couplings) old.couplings)

@@ -70,6 +70,13 @@ is_unfed (Gate phase least greatest sources) = false
 is_unfed (Latch phase least greatest setup hold None) = true
 is_unfed (Latch phase least greatest setup hold (Some source)) = false
 
+-- the phase of a node; a free row has none
+abbrev pub phase_of : Node → ℕ
+phase_of Free = 0
+phase_of (Input phase earliest latest) = phase
+phase_of (Gate phase least greatest sources) = phase
+phase_of (Latch phase least greatest setup hold source) = phase
+
 -- the least delay of a node; an input has none
 abbrev pub least_delay : Node → ℕ
 least_delay Free = 0

@@ -1,4 +1,4 @@
-// The calls on a book as data, and what a granted one answers.
+// The calls that make or change the table of a book, as data, and what a granted one answers.
 use super::couplings::Coupling;
 use schedule::figures::Figures;
 
@@ -29,7 +29,7 @@ pub struct Latch {
     pub hold: u32,
 }
 
-// A call on a book.
+// A call that makes or changes the table of a book.
 #[derive(Clone, Copy)]
 pub enum Call<'a> {
     Open { figures: Figures },
@@ -49,12 +49,4 @@ pub enum Answer {
     Done,
     Node(u16),
     Coupling(u16),
-}
-
-// A call of a list of calls, and how many rows of each table are lent to it; of a table that has fewer, all.
-#[derive(Clone, Copy)]
-pub struct LentCall<'a> {
-    pub nodes: usize,
-    pub couplings: usize,
-    pub call: Call<'a>,
 }

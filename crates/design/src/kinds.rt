@@ -1,6 +1,6 @@
 // What the kind of a row tells of it.
 ghost use Rattle.std.specs.Prelude.{◌≡◌};
-ghost use Rattle.design.specs.Rows.{is_node, is_latch, is_victim, is_unfed, least_delay, fed_by};
+ghost use Rattle.design.specs.Rows.{is_node, is_latch, is_victim, is_unfed, phase_of, least_delay, fed_by};
 
 use super::nodes::Node;
 
@@ -30,6 +30,18 @@ impl Node {
         ensures { result ≡ is_unfed self.now }
     {
         matches!(self, Node::Latch { source: None, .. })
+    }
+
+    // The phase of a row: 0 for a free row, which has none.
+    pub fn phase(&self) -> u8
+        ensures { result ≡ phase_of self.now }
+    {
+        match *self {
+            Node::Free => 0,
+            Node::Input { phase, .. } | Node::Gate { phase, .. } | Node::Latch { phase, .. } => {
+                phase
+            }
+        }
     }
 
     // The least delay of a row: 0 for an input or a free row, which have none.
