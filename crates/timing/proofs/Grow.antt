@@ -1,5 +1,5 @@
 -- What holds of windows: a node has one at most, one with an end has no paths past every number, and more couplings give windows that include the old ones.
-use Rattle.std.proofs.Common.{◌≡◌, ◌+◌, ◌<◌, ℕ, suc, ◌≤◌, Bool, true, false, cond, List, [], ◌∷◌, length, ℤ, ◌≤ℤ◌, refl, sym, arith}
+use Rattle.std.proofs.Common.{◌≡◌, ◌+◌, ◌<◌, ℕ, suc, ◌≤◌, Bool, true, false, cond, List, [], ◌∷◌, length, ℤ, ◌≤ℤ◌, refl, sym, ◌∙◌, arith}
 use Rattle.std.proofs.lemmas.Int.{ints}
 use Rattle.std.proofs.lemmas.Bool.{true≢false}
 use Rattle.design.specs.declared.couplings.Coupling.{Coupling}
@@ -7,11 +7,12 @@ use Rattle.design.specs.Rows.{is_latch, assisting_of}
 use Rattle.design.specs.Table.{Table}
 use Rattle.paths.specs.Figures.{figure}
 use Rattle.paths.proofs.Steps.{grows}
+use Rattle.timing.specs.declared.windows.Window.{Window}
 use Rattle.timing.specs.Connections.{row, network}
 use Rattle.closing.specs.Sets.{Within}
 use Rattle.timing.specs.Delays.{chosen_from, opposing_of}
 use Rattle.timing.specs.Figures.{late_gain, late_start, late, early_gain, early_start, early}
-use Rattle.timing.specs.Windows.{PathTo, BeginsBy, Ends}
+use Rattle.timing.specs.Windows.{PathTo, BeginsBy, Ends, IsWindow}
 use Rattle.timing.specs.Theorems.{WindowsAreOne, WindowsEnd, WindowsGrow}
 
 -- one more coupling, taken into a list or not, adds no less to what a victim has opposing where it is taken more readily and the rest gives no less
@@ -43,12 +44,12 @@ assisting_grows S T i (k ∷ ks) in_both v =
     assisting_joins (S i) (T i) k (chosen_from S (suc i) ks) (chosen_from T (suc i) ks) v (in_both i (omega arith) (omega arith)) rest
 
 -- under more couplings no path has a smaller late figure
-late_grows : (t : Table) (S T : ℕ → Bool) → Within (length t.couplings) S T → (v : ℕ) (p : PathTo t v) → figure (late t S) p ≤ℤ figure (late t T) p
+pub late_grows : (t : Table) (S T : ℕ → Bool) → Within (length t.couplings) S T → (v : ℕ) (p : PathTo t v) → figure (late t S) p ≤ℤ figure (late t T) p
 late_grows t S T more v p =
     grows (network t.nodes) (late_start t) (late_start t) (late_gain t S) (late_gain t T) (λ u. omega (arith, ints)) (λ k u. omega (arith, ints, opposing_grows S T 0 t.couplings (λ c from lt. more c (omega arith)) k)) v p
 
 -- and none has a greater early figure
-early_grows : (t : Table) (S T : ℕ → Bool) → Within (length t.couplings) S T → (v : ℕ) (p : PathTo t v) → figure (early t T) p ≤ℤ figure (early t S) p
+pub early_grows : (t : Table) (S T : ℕ → Bool) → Within (length t.couplings) S T → (v : ℕ) (p : PathTo t v) → figure (early t T) p ≤ℤ figure (early t S) p
 early_grows t S T more v p =
     grows (network t.nodes) (early_start t) (early_start t) (early_gain t T) (early_gain t S) (λ u. omega (arith, ints)) (λ k u. omega (arith, ints, assisting_grows S T 0 t.couplings (λ c from lt. more c (omega arith)) k)) v p
 
@@ -89,3 +90,36 @@ windows_end t S v w h no_end =
     let r = no_end w.ends in
     let most = h.ends.most r.0 refl in
     omega (arith, ints, r.2, most)
+
+-- under sets with the same couplings a path has one late figure
+late_same : (t : Table) (S T : ℕ → Bool) → Within (length t.couplings) S T → Within (length t.couplings) T S → (v : ℕ) (p : PathTo t v) → figure (late t T) p ≡ figure (late t S) p
+late_same t S T there back v p = omega (arith, ints, late_grows t S T there v p, late_grows t T S back v p)
+
+-- and one early figure
+early_same : (t : Table) (S T : ℕ → Bool) → Within (length t.couplings) S T → Within (length t.couplings) T S → (v : ℕ) (p : PathTo t v) → figure (early t T) p ≡ figure (early t S) p
+early_same t S T there back v p = omega (arith, ints, early_grows t S T there v p, early_grows t T S back v p)
+
+-- so a window begins where it did
+begins_same : (t : Table) (S T : ℕ → Bool) → Within (length t.couplings) S T → Within (length t.couplings) T S → (v : ℕ) (b : Bool) (f : ℤ) → BeginsBy b t S v f → BeginsBy b t T v f
+begins_same t S T there back v true f h = h
+begins_same t S T there back v false f h =
+    record {
+      path = h.path;
+      picked = h.picked;
+      reached = early_same t S T there back v h.path ∙ h.reached;
+      least = λ p picked. omega (arith, ints, early_same t S T there back v p, h.least p picked);
+    }
+
+-- and ends where it did
+ends_same : (t : Table) (S T : ℕ → Bool) → Within (length t.couplings) S T → Within (length t.couplings) T S → (v : ℕ) (f : ℤ) → Ends t S v f → Ends t T v f
+ends_same t S T there back v f h =
+    record {
+      path = h.path;
+      picked = h.picked;
+      reached = late_same t S T there back v h.path ∙ h.reached;
+      most = λ p picked. omega (arith, ints, late_same t S T there back v p, h.most p picked);
+    }
+
+-- a window under a set of couplings is one under each set with the same couplings
+pub window_same : (t : Table) (S T : ℕ → Bool) → Within (length t.couplings) S T → Within (length t.couplings) T S → (v : ℕ) (w : Window) → IsWindow t S v w → IsWindow t T v w
+window_same t S T there back v w h = record { begins = begins_same t S T there back v (is_latch (row t.nodes v)) w.begins h.begins; ends = ends_same t S T there back v w.ends h.ends }

@@ -2,3 +2,4 @@
 pub mod Grow
 pub mod Sound
 pub mod Reached
+pub mod Bounded

@@ -13,13 +13,13 @@ use Rattle.schedule.proofs.Lawful.{places_bounds}
 use Rattle.design.specs.declared.nodes.Node.{Node}
 use Rattle.design.specs.declared.nodes.Node.TheVariants.{Free, Input, Gate, Latch}
 use Rattle.design.specs.declared.couplings.Coupling.{Coupling}
-use Rattle.design.specs.Rows.{is_latch, no_coupling, least_delay, assisting_of, sources_in}
+use Rattle.design.specs.Rows.{is_latch, no_coupling, least_delay, assisting_of, sources_in, phase_of}
 use Rattle.design.specs.Table.{Table}
 use Rattle.design.specs.SoFar.{RowStands, Stands}
 use Rattle.paths.specs.Networks.{IsIn, Connected, Sound}
 use Rattle.kinds.specs.Arrivals.{latest_start, latest_between, earliest_start, earliest_between}
 use Rattle.rings.specs.Found.{Small, Says}
-use Rattle.timing.specs.Connections.{row, phase_of, fed_from, starts_paths, network, forward_or_zero, shift_between, late_opening, start_at}
+use Rattle.timing.specs.Connections.{row, fed_from, starts_paths, network, forward_or_zero, shift_between, late_opening, start_at}
 use Rattle.timing.specs.Delays.{chosen_from, opposing_of, own_greatest, delays_under}
 use Rattle.timing.specs.Courses.{course_over}
 use Rattle.timing.specs.Figures.{late_gain, late_start, early_gain, early_start}
@@ -139,7 +139,9 @@ forward_slight c i j law both =
     let p = period_small c law in
     let a = start_small c i law has_i in
     let b = start_small c j law has_j in
-    either_slight (nat_lt i j) (start c j -ℤ start c i) (pos c.period +ℤ start c j -ℤ start c i) (λ _. (omega (arith, ints, p, a, b), omega (arith, ints, p, a, b))) (omega (arith, ints, p, a, b), omega (arith, ints, p, a, b))
+    let from : start c i ≡ pos (get_or c.starts (i - 1) 0) = rw has_i refl in
+    let to : start c j ≡ pos (get_or c.starts (j - 1) 0) = rw has_j refl in
+    either_slight (nat_lt i j) (start c j -ℤ start c i) (pos c.period +ℤ start c j -ℤ start c i) (λ _. (omega (arith, ints, p, a, b, from, to), omega (arith, ints, p, a, b, from, to))) (omega (arith, ints, p, a, b, from, to), omega (arith, ints, p, a, b, from, to))
 
 -- the shift of every connection is slight
 shift_slight : (c : Clock) (x y : Node) → lawful c ≡ true → Slight (shift_between c x y)

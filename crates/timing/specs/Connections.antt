@@ -3,20 +3,13 @@ use Rattle.std.specs.Prelude.{ℕ, Bool, true, false, cond, not, ◌&&◌, ◌||
 use Rattle.schedule.specs.Clock.{Clock, has_phase, forward, opening}
 use Rattle.design.specs.declared.nodes.Node.{Node}
 use Rattle.design.specs.declared.nodes.Node.TheVariants.{Free, Input, Gate, Latch}
-use Rattle.design.specs.Rows.{sources_in, is_latch}
+use Rattle.design.specs.Rows.{sources_in, is_latch, phase_of}
 use Rattle.paths.specs.Networks.{Network}
 use Rattle.kinds.specs.declared.timings.Start.{Start}
 
 -- the row of a node; one that is not there reads as free
 abbrev pub row : List Node → ℕ → Node
 row nodes v = slice_index_or nodes v Free
-
--- the phase of a node
-abbrev pub phase_of : Node → ℕ
-phase_of Free = 0
-phase_of (Input phase earliest latest) = phase
-phase_of (Gate phase least greatest sources) = phase
-phase_of (Latch phase least greatest setup hold source) = phase
 
 -- the nodes that a node is connected from: the sources of a gate, or the one of a latch that is fed
 abbrev pub fed_from : Node → List ℕ

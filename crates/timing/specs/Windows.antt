@@ -2,12 +2,12 @@
 use Rattle.std.specs.Prelude.{◌≡◌, ℕ, Bool, true, false, ℤ, ◌≤ℤ◌, ◌<ℤ◌}
 use Rattle.design.specs.declared.nodes.Node.{Node}
 use Rattle.design.specs.declared.nodes.Node.TheVariants.{Free, Input, Gate, Latch}
-use Rattle.design.specs.Rows.{is_latch}
+use Rattle.design.specs.Rows.{is_latch, phase_of}
 use Rattle.design.specs.Table.{Table}
 use Rattle.paths.specs.Networks.{Path, has_step, is_short}
 use Rattle.paths.specs.Figures.{figure, Greatest, Least, NoEnd, every}
 use Rattle.timing.specs.declared.windows.Window.{Window}
-use Rattle.timing.specs.Connections.{row, network, phase_of, early_opening, late_bound, early_bound}
+use Rattle.timing.specs.Connections.{row, network, early_opening, late_bound, early_bound}
 use Rattle.timing.specs.Figures.{late, early}
 
 -- a path in a table to node v
