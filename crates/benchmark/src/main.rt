@@ -14,6 +14,7 @@ use std::rt::Clock;
 use std::time::Instant;
 use timing::windows::Window;
 use windows::calls::{latest_arrivals, windows};
+use windows::checked::Checked;
 use windows::found::{Ends, LatestSweeps};
 
 mod designs;
@@ -32,7 +33,7 @@ struct Room {
 }
 
 impl Room {
-    fn find_windows(&mut self, design: &Design) -> Result<Ends, Refusal> {
+    fn find_windows(&mut self, design: &Design) -> Result<Checked, Refusal> {
         windows(
             &design.draft,
             &design.schedule,

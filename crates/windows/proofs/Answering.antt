@@ -1,5 +1,5 @@
 -- What the calls answer, of the rows that are granted and of what sweeps found.
-use Rattle.std.proofs.Common.{◌≡◌, ℕ, ◌<◌, Bool, List, length, drop, min, Ok, refl, ap, ◌∙◌, arith}
+use Rattle.std.proofs.Common.{◌≡◌, ℕ, ◌<◌, Bool, List, length, drop, min, Option, Ok, refl, ap, ◌∙◌, arith}
 use Rattle.design.specs.Table.{Table, Loan}
 use Rattle.design.specs.SoFar.{Stands}
 use Rattle.design.proofs.Standing.{all_stand}
@@ -10,6 +10,8 @@ use Rattle.timing.specs.Connections.{network}
 use Rattle.timing.specs.Delays.{delays_under}
 use Rattle.timing.specs.Figures.{late_start, late_gain}
 use Rattle.timing.specs.declared.windows.Window.{Window}
+use Rattle.windows.specs.declared.checked.Breach.{Breach}
+use Rattle.windows.specs.declared.checked.Checked.TheVariants.{Ended, NoEnd}
 use Rattle.windows.specs.declared.circuit.Circuit.{Circuit}
 use Rattle.windows.specs.declared.flags.Flag.{Flag}
 use Rattle.windows.specs.declared.found.LatestSweeps.{LatestSweeps}
@@ -21,8 +23,10 @@ use Rattle.windows.specs.Seen.{figure_at, network_of}
 use Rattle.windows.specs.Lending.{RowsOf}
 use Rattle.windows.specs.Found.{EndsBy, Shows, MadeSweeps, EarlyFound}
 use Rattle.windows.specs.Written.{EndsWritten, BeginsWritten}
+use Rattle.windows.specs.Breaches.{late_at, late_excess_at, early_at, early_excess_at, LowestBreach}
 use Rattle.windows.specs.Answers.{LatestAnswered, EarliestAnswered, WindowsAnswered}
 use Rattle.windows.proofs.Reading.{arrivals_found, ends_found, windows_found}
+use Rattle.windows.proofs.Breaching.{late_said, early_said}
 
 -- a circuit of granted rows, with their delays while flagged couplings act
 pub record Wired (rows : Rows) (flags : List Flag) (c : Circuit) : Type 0 where
@@ -30,7 +34,7 @@ pub record Wired (rows : Rows) (flags : List Flag) (c : Circuit) : Type 0 where
   pub nodes : c.nodes.now ≡ rows.nodes.now
   pub delays : (v : ℕ) → v < 4096 → delays_at c.delays.now v ≡ delays_under rows.nodes.now rows.couplings.now (is_flagged flags) v
 
-module _ (view : Loan → Table) (loan : Loan) (flags : List Flag) (places : ℕ) (rows : Rows) (granted : RowsOf view loan flags places (Ok rows)) (c : Circuit) (wired : Wired rows flags c) where
+module _ (view : Loan → Table) (loan : Loan) (flags : List Flag) (places : ℕ) (rows : Rows) (granted : RowsOf view loan (length flags) places (Ok rows)) (c : Circuit) (wired : Wired rows flags c) where
   -- it shows the table
   shows : Shows (view loan) (is_flagged flags) c
   shows =
@@ -79,32 +83,42 @@ module _ (view : Loan → Table) (loan : Loan) (flags : List Flag) (places : ℕ
   )
 
   -- the answer of the call for windows where one has no end
-  pub unended_answered : (old : List Window) (room column final starts : List Arrival) (latch : ℕ) → places ≡ min (length old) (length room) →
+  pub unended_answered : (old : List Window) (room column final starts : List Arrival) (latch named : ℕ) → places ≡ min (length old) (length room) →
       ((t : Table) (S : ℕ → Bool) → Stands t → Shows t S c → LatestFound (network t.nodes) (late_start t) (late_gain t S) (figure_at NoPath starts) (figure_at NoPath column)) →
       EndsBy c.nodes.now starts (NoneAt latch) →
-      length column ≡ length room → drop (length c.nodes.now) column ≡ drop (length c.nodes.now) room → final ≡ column → WindowsAnswered view loan flags old old room final (Ok (NoneAt latch))
-  unended_answered old room column final starts latch all latest by long beyond same = (
+      length column ≡ length room → drop (length c.nodes.now) column ≡ drop (length c.nodes.now) room → final ≡ column → named ≡ latch → WindowsAnswered view loan flags old old room final (Ok (NoEnd named))
+  unended_answered old room column final starts latch named all latest by long beyond same is = (
     rw all at granted.0,
     refl,
     rw (same, ← as_many) (long, beyond),
     λ clock lent calls held e.
         let stands : Stands (view loan) = rw e (all_stand clock lent calls held) in
         let f = latest (view loan) (is_flagged flags) stands shows in
-        ends_found (view loan) (is_flagged flags) (figure_at NoPath starts) (figure_at NoPath column) f starts (λ v lt. refl) (NoneAt latch) (rw shows.nodes at by),
+        let named_by : EndsBy c.nodes.now starts (NoneAt named) = rw is by in
+        ends_found (view loan) (is_flagged flags) (figure_at NoPath starts) (figure_at NoPath column) f starts (λ v lt. refl) (NoneAt named) (rw shows.nodes at named_by),
   )
 
   -- the answer of the call for windows where all have an end
-  pub windows_answered : (old mid new : List Window) (room column column' final starts : List Arrival) → places ≡ min (length old) (length room) →
+  pub windows_answered : (old mid new : List Window) (room column column' final starts : List Arrival) (late early : Option Breach) → places ≡ min (length old) (length room) →
       ((t : Table) (S : ℕ → Bool) → Stands t → Shows t S c → LatestFound (network t.nodes) (late_start t) (late_gain t S) (figure_at NoPath starts) (figure_at NoPath column)) →
-      EndsBy c.nodes.now starts All → EndsWritten (network_of c) (figure_at NoPath starts) (figure_at NoPath column) old mid →
-      ((t : Table) (S : ℕ → Bool) → Stands t → Shows t S c → EarlyFound t S column') → BeginsWritten c (figure_at NoPath column') mid new →
-      length column' ≡ length room → drop (length c.nodes.now) column' ≡ drop (length c.nodes.now) room → final ≡ column' → WindowsAnswered view loan flags old new room final (Ok All)
-  windows_answered old mid new room column column' final starts all latest by ends earliest begins long beyond same = (
+      EndsBy c.nodes.now starts All → LowestBreach (length c.nodes.now) (late_at c (figure_at NoPath column)) (late_excess_at c (figure_at NoPath column)) late →
+      EndsWritten (network_of c) (figure_at NoPath starts) (figure_at NoPath column) old mid →
+      ((t : Table) (S : ℕ → Bool) → Stands t → Shows t S c → EarlyFound t S column') → LowestBreach (length c.nodes.now) (early_at c (figure_at NoPath column')) (early_excess_at c (figure_at NoPath column')) early →
+      BeginsWritten c (figure_at NoPath column') mid new →
+      length column' ≡ length room → drop (length c.nodes.now) column' ≡ drop (length c.nodes.now) room → final ≡ column' → WindowsAnswered view loan flags old new room final (Ok (Ended late early))
+  windows_answered old mid new room column column' final starts late early all latest by lates ends earliest earlies begins long beyond same = (
     rw all at granted.0,
     rw (← as_many) (begins.long ∙ ends.long, begins.beyond ∙ ends.beyond),
     rw (same, ← as_many) (long, beyond),
     λ clock lent calls held e.
         let stands : Stands (view loan) = rw e (all_stand clock lent calls held) in
-        windows_found (view loan) (is_flagged flags) c starts column column' old mid new stands shows
-        (latest (view loan) (is_flagged flags) stands shows) by (earliest (view loan) (is_flagged flags) stands shows) ends begins,
+        let f = latest (view loan) (is_flagged flags) stands shows in
+        let g = earliest (view loan) (is_flagged flags) stands shows in (
+          windows_found (view loan) (is_flagged flags) c starts column column' old mid new stands shows f by g ends begins,
+          late_said (view loan) (is_flagged flags) c stands shows (figure_at NoPath column) late
+              (arrivals_found (view loan) (is_flagged flags) (figure_at NoPath starts) (figure_at NoPath column) f)
+              (ends_found (view loan) (is_flagged flags) (figure_at NoPath starts) (figure_at NoPath column) f starts (λ v lt. refl) All (rw shows.nodes at by))
+              lates,
+          early_said (view loan) (is_flagged flags) c stands shows (figure_at NoPath column') early g earlies,
+        ),
   )

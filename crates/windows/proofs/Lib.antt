@@ -5,4 +5,5 @@ pub mod Passing
 pub mod Settles
 pub mod Agreeing
 pub mod Reading
+pub mod Breaching
 pub mod Answering

@@ -6,7 +6,7 @@ use Rattle.std.proofs.lemmas.Int.{ints}
 use Rattle.design.specs.declared.nodes.Node.{Node}
 use Rattle.schedule.specs.Clock.{Clock}
 use Rattle.design.specs.declared.nodes.Node.TheVariants.{Free, Input, Gate, Latch}
-use Rattle.design.specs.Rows.{is_latch}
+use Rattle.design.specs.Rows.{is_latch, phase_of}
 use Rattle.design.specs.Table.{Table}
 use Rattle.design.specs.SoFar.{Stands}
 use Rattle.paths.specs.Networks.{Network, Path, has_step, is_short}
@@ -15,7 +15,7 @@ use Rattle.paths.specs.Sweeps.{leaving, arrives, arrives_short}
 use Rattle.kinds.specs.declared.arrival.Arrival.{Arrival}
 use Rattle.kinds.specs.declared.arrival.Arrival.TheVariants.{NoPath, At, NoEnd}
 use Rattle.rings.specs.Found.{IsLatest, IsEarliest, LatestFound}
-use Rattle.timing.specs.Connections.{row, network, phase_of, early_opening, start_at}
+use Rattle.timing.specs.Connections.{row, network, early_opening, start_at}
 use Rattle.timing.specs.Figures.{late_start, late_gain, late, early}
 use Rattle.timing.specs.Windows.{HasNoEnd, IsWindow, Ends, BeginsBy}
 use Rattle.windows.specs.declared.circuit.Circuit.{Circuit}
@@ -25,7 +25,7 @@ use Rattle.timing.specs.declared.windows.Window.{Window}
 use Rattle.timing.proofs.Reached.{has_path, has_short_path}
 use Rattle.windows.specs.Seen.{figure_at, network_of}
 use Rattle.windows.specs.Written.{tick_of, window_at, EndsWritten, BeginsWritten}
-use Rattle.windows.specs.Answers.{EndsFound, WindowsFound}
+use Rattle.windows.specs.Answers.{EndsFound}
 use Rattle.windows.specs.Found.{Shows, StartsWithoutEnd, EndsBy, EarlyFound}
 
 -- a path without a latch at its end arrives, however it comes
@@ -85,7 +85,7 @@ module _ (t : Table) (S : ℕ → Bool) (starts column : ℕ → Arrival) (found
     pub ends_found : (ends : Ended) → EndsBy t.nodes list ends → EndsFound t S ends
     ends_found All by = λ v lt. has_end v (leaving (network t.nodes) starts column v) (found.nodes v lt) (none_left by v lt)
     ends_found (NoneAt latch) by =
-        (by.0.0, by.0.1, starts_without latch by.0, λ v lt l none. without_starts v (omega (arith, lt, by.0.0)) l (by.1 v lt) none)
+        (by.0.0, (by.0.1, starts_without latch by.0), λ v lt h. without_starts v (omega (arith, lt, by.0.0)) h.0 (by.1 v lt) h.1)
 
 -- a latch starts paths, early, with its opening edge
 early_start_latch : (clock : Clock) (x : Node) → is_latch x ≡ true → (start_at clock x).earliest ≡ early_opening clock (phase_of x)
@@ -137,7 +137,7 @@ module _ (t : Table) (S : ℕ → Bool) (stands : Stands t) (v : ℕ) (lt : v < 
 pub windows_found : (t : Table) (S : ℕ → Bool) (c : Circuit) (starts column column' : List Arrival) (old mid new : List Window) → Stands t → Shows t S c →
     LatestFound (network t.nodes) (late_start t) (late_gain t S) (figure_at NoPath starts) (figure_at NoPath column) → EndsBy c.nodes.now starts All →
     EarlyFound t S column' → EndsWritten (network_of c) (figure_at NoPath starts) (figure_at NoPath column) old mid → BeginsWritten c (figure_at NoPath column') mid new →
-    WindowsFound t S new All
+    (v : ℕ) → v < length t.nodes → IsWindow t S v (window_at new v)
 windows_found t S c starts column column' old mid new stands shows found by early_found ends begins = λ v lt.
     let lt' : v < length c.nodes.now = omega (arith, lt, ap length shows.nodes) in
     window_found t S stands v lt (figure_at NoPath starts) (figure_at NoPath column) (figure_at NoPath column') (window_at new v) found

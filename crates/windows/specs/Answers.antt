@@ -1,17 +1,19 @@
 -- What the calls of this crate answer and write.
-use Rattle.std.specs.Prelude.{◌≡◌, ℕ, ◌<◌, Bool, true, false, List, length, drop, min, Ok, Err, Result}
+use Rattle.std.specs.Prelude.{◌≡◌, ℕ, ◌<◌, Bool, true, false, ℤ, List, length, drop, min, Some, None, Option, Ok, Err, Result}
 use Rattle.refusals.specs.declared.Refusal.{Refusal}
 use Rattle.refusals.specs.declared.Refusal.TheVariants.{Short}
 use Rattle.schedule.specs.Clock.{Clock}
-use Rattle.design.specs.Rows.{is_latch}
 use Rattle.design.specs.Table.{Table, Lent, Loan, lent_in, opening}
 use Rattle.design.specs.Calls.{Ask}
 use Rattle.design.specs.Effects.{after}
 use Rattle.design.specs.SoFar.{Held}
 use Rattle.kinds.specs.declared.arrival.Arrival.{Arrival}
 use Rattle.timing.specs.declared.windows.Window.{Window}
-use Rattle.timing.specs.Connections.{row}
-use Rattle.timing.specs.Windows.{HasNoEnd, IsWindow}
+use Rattle.timing.specs.Windows.{HasNoEnd, IsWindow, IsLate, IsEarly}
+use Rattle.timing.specs.Breaches.{Lowest, NoNode, EndlessLatch, LateBy, EarlyBy}
+use Rattle.windows.specs.declared.checked.Breach.{Breach}
+use Rattle.windows.specs.declared.checked.Checked.{Checked}
+use Rattle.windows.specs.declared.checked.Checked.TheVariants.{Ended, NoEnd}
 use Rattle.windows.specs.declared.found.Ends.{Ends}
 use Rattle.windows.specs.declared.found.Ends.TheVariants.{All, NoneAt}
 use Rattle.windows.specs.declared.found.LatestSweeps.{LatestSweeps}
@@ -29,23 +31,28 @@ ForSoFar t holds = (clock : Clock) (lent : Lent) (calls : List (Lent × Ask)) �
 abbrev pub KeptBeyond : {X : Type 0} → ℕ → List X → List X → Type 0
 KeptBeyond n old new = (length new ≡ length old) × (drop n new ≡ drop n old)
 
--- the lowest latch whose window has no end
-abbrev pub LowestWithoutEnd : Table → (ℕ → Bool) → ℕ → Type 0
-LowestWithoutEnd t S latch =
-    (latch < length t.nodes)
-    × (is_latch (row t.nodes latch) ≡ true)
-    × HasNoEnd t S latch
-    × ((v : ℕ) → v < latch → is_latch (row t.nodes v) ≡ true → HasNoEnd t S v → ⊥)
-
 -- every window has an end, or the lowest latch is named whose window has none
 abbrev pub EndsFound : Table → (ℕ → Bool) → Ends → Type 0
-EndsFound t S All = (v : ℕ) → v < length t.nodes → HasNoEnd t S v → ⊥
-EndsFound t S (NoneAt latch) = LowestWithoutEnd t S latch
+EndsFound t S All = NoNode t (HasNoEnd t S)
+EndsFound t S (NoneAt latch) = Lowest t (EndlessLatch t S) latch
 
--- the windows of all nodes stand in a table, or the lowest latch is named whose window has no end
-abbrev pub WindowsFound : Table → (ℕ → Bool) → List Window → Ends → Type 0
-WindowsFound t S windows All = (v : ℕ) → v < length t.nodes → IsWindow t S v (window_at windows v)
-WindowsFound t S windows (NoneAt latch) = LowestWithoutEnd t S latch
+-- the lowest latch of which something holds is named, with by how much it does; or it holds of no node
+abbrev pub BreachSaid : Table → (ℕ → Type 0) → (ℕ → ℤ → Type 0) → Option Breach → Type 0
+BreachSaid t holds by None = NoNode t holds
+BreachSaid t holds by (Some b) = Lowest t holds b.latch × by b.latch b.excess
+
+-- the lowest late latch, if one is late
+abbrev pub LateSaid : Table → (ℕ → Bool) → Option Breach → Type 0
+LateSaid t S late = BreachSaid t (IsLate t S) (LateBy t S) late
+
+-- the lowest early latch, if one is early
+abbrev pub EarlySaid : Table → (ℕ → Bool) → Option Breach → Type 0
+EarlySaid t S early = BreachSaid t (IsEarly t S) (EarlyBy t S) early
+
+-- the windows of all nodes stand in a table, and the lowest late and the lowest early latch are named; or the lowest latch is named whose window has no end
+abbrev pub WindowsFound : Table → (ℕ → Bool) → List Window → Checked → Type 0
+WindowsFound t S windows (Ended late early) = ((v : ℕ) → v < length t.nodes → IsWindow t S v (window_at windows v)) × LateSaid t S late × EarlySaid t S early
+WindowsFound t S windows (NoEnd latch) = Lowest t (EndlessLatch t S) latch
 
 -- the latest arrivals stand in a column, found in so many sweeps
 abbrev pub LatestArrive : Table → (ℕ → Bool) → List Arrival → LatestSweeps → Type 0
@@ -67,18 +74,18 @@ EarliestAnswered view loan flags old new (Ok _) =
     × ForSoFar (view loan) (λ t. EarlyFound t (is_flagged flags) new)
 EarliestAnswered view loan flags old new (Err why) = (lacks_rows (lent_in loan) (view loan) (length flags) (length old) ≡ true) × (why ≡ Short) × (new ≡ old)
 
--- The call for windows. Refused where rows are lacking, and then nothing is written. Else the windows of all nodes stand in the window table, and nothing past them; or one has no end, and the whole window table is as it was.
-abbrev pub WindowsAnswered : (Loan → Table) → Loan → List Flag → List Window → List Window → List Arrival → List Arrival → Result Ends Refusal → Type 0
-WindowsAnswered view loan flags old new column column' (Ok All) =
+-- The call for windows. Refused where rows are lacking, and then nothing is written. Else the windows of all nodes stand in the window table, and nothing past them, and the late and the early latch are named; or a window has no end, and the whole window table is as it was.
+abbrev pub WindowsAnswered : (Loan → Table) → Loan → List Flag → List Window → List Window → List Arrival → List Arrival → Result Checked Refusal → Type 0
+WindowsAnswered view loan flags old new column column' (Ok (Ended late early)) =
     (lacks_rows (lent_in loan) (view loan) (length flags) (min (length old) (length column)) ≡ false)
     × KeptBeyond (length (view loan).nodes) old new
     × KeptBeyond (length (view loan).nodes) column column'
-    × ForSoFar (view loan) (λ t. WindowsFound t (is_flagged flags) new All)
-WindowsAnswered view loan flags old new column column' (Ok (NoneAt latch)) =
+    × ForSoFar (view loan) (λ t. WindowsFound t (is_flagged flags) new (Ended late early))
+WindowsAnswered view loan flags old new column column' (Ok (NoEnd latch)) =
     (lacks_rows (lent_in loan) (view loan) (length flags) (min (length old) (length column)) ≡ false)
     × (new ≡ old)
     × KeptBeyond (length (view loan).nodes) column column'
-    × ForSoFar (view loan) (λ t. WindowsFound t (is_flagged flags) new (NoneAt latch))
+    × ForSoFar (view loan) (λ t. WindowsFound t (is_flagged flags) new (NoEnd latch))
 WindowsAnswered view loan flags old new column column' (Err why) =
     (lacks_rows (lent_in loan) (view loan) (length flags) (min (length old) (length column)) ≡ true)
     × (why ≡ Short)

@@ -4,7 +4,6 @@ use Rattle.refusals.specs.declared.Refusal.{Refusal}
 use Rattle.refusals.specs.declared.Refusal.TheVariants.{Short}
 use Rattle.design.specs.Table.{Table, Lent, Loan, lent_in}
 use Rattle.design.specs.Tests.{is_short}
-use Rattle.windows.specs.declared.flags.Flag.{Flag}
 use Rattle.kinds.specs.declared.timings.Delays.{Delays}
 use Rattle.windows.specs.declared.circuit.Circuit.{Circuit}
 use Rattle.windows.specs.declared.rows.Rows.{Rows}
@@ -13,17 +12,18 @@ use Rattle.windows.specs.declared.rows.Rows.{Rows}
 abbrev pub lacks_rows : Lent → Table → ℕ → ℕ → Bool
 lacks_rows l t flags places = is_short l t 0 0 || nat_lt flags (length t.couplings) || nat_lt places (length t.nodes)
 
--- the rows of the table that a book says with what is lent, or refused where rows are lacking
-abbrev pub RowsOf : (Loan → Table) → Loan → List Flag → ℕ → Result Rows Refusal → Type 0
+-- the rows of the table that a book says with what is lent, for so many flags and places; or refused where rows are lacking
+abbrev pub RowsOf : (Loan → Table) → Loan → ℕ → ℕ → Result Rows Refusal → Type 0
 RowsOf view loan flags places (Ok rows) =
-    (lacks_rows (lent_in loan) (view loan) (length flags) places ≡ false)
+    (lacks_rows (lent_in loan) (view loan) flags places ≡ false)
     × (rows.schedule.now ≡ (view loan).clock)
     × (rows.nodes.now ≡ (view loan).nodes)
     × (rows.couplings.now ≡ (view loan).couplings)
     × (length rows.nodes.now ≤ 4096)
     × (length rows.couplings.now ≤ 1024)
     × (length rows.nodes.now ≤ places)
-RowsOf view loan flags places (Err why) = (lacks_rows (lent_in loan) (view loan) (length flags) places ≡ true) × (why ≡ Short)
+    × (length rows.couplings.now ≤ flags)
+RowsOf view loan flags places (Err why) = (lacks_rows (lent_in loan) (view loan) flags places ≡ true) × (why ≡ Short)
 
 -- the circuit of rows with these delays
 abbrev pub IsCircuit : Rows → List Delays → Circuit → Type 0

@@ -7,4 +7,5 @@ pub mod Rings
 pub mod Found
 pub mod Lending
 pub mod Written
+pub mod Breaches
 pub mod Answers

@@ -2,6 +2,8 @@
 ghost use Rattle.states.specs.Views.{loan_of, open_table};
 ghost use Rattle.windows.specs.Answers.{LatestAnswered, EarliestAnswered, WindowsAnswered};
 
+use super::breaches::{early_latch, late_latch};
+use super::checked::Checked;
 use super::column::Column;
 use super::effective::Effective;
 use super::find::{find_earliest, find_latest};
@@ -31,7 +33,7 @@ pub fn latest_arrivals<S: Stage>(
 ) -> Result<LatestSweeps, Refusal>
     ensures { LatestAnswered (open_table S.state book.now) (loan_of schedule.now nodes.now couplings.now) flags.now column.old column.new result }
 {
-    let rows = rows_of(book, schedule, nodes, couplings, flags, column.len())?;
+    let rows = rows_of(book, schedule, nodes, couplings, flags.len(), column.len())?;
     let delays = Effective::under(rows.nodes, rows.couplings, flags);
     let circuit = rows.circuit(&delays);
     let mut starts = [Arrival::NoPath; MOST_NODES];
@@ -51,7 +53,7 @@ pub fn earliest_arrivals<S: Stage>(
 ) -> Result<(), Refusal>
     ensures { EarliestAnswered (open_table S.state book.now) (loan_of schedule.now nodes.now couplings.now) flags.now column.old column.new result }
 {
-    let rows = rows_of(book, schedule, nodes, couplings, flags, column.len())?;
+    let rows = rows_of(book, schedule, nodes, couplings, flags.len(), column.len())?;
     let delays = Effective::under(rows.nodes, rows.couplings, flags);
     let circuit = rows.circuit(&delays);
     let mut starts = [Arrival::NoPath; MOST_NODES];
@@ -60,8 +62,9 @@ pub fn earliest_arrivals<S: Stage>(
     Ok(())
 }
 
-// Writes the window of each node into `windows` while the couplings act whose flags are set. Where a window has no end,
-// the lowest latch with such a window is the answer, and `windows` stays as it is. The column is room to work in.
+// Writes the window of each node into `windows` while the couplings act whose flags are set, and answers which latches are
+// late or early. Where a window has no end, the lowest latch with such a window is the answer, and `windows` stays as it
+// is. The column is room to work in.
 pub fn windows<S: Stage>(
     book: &OpenBook<S>,
     schedule: &Schedule,
@@ -70,11 +73,11 @@ pub fn windows<S: Stage>(
     flags: &[Flag],
     windows: &mut [Window],
     column: &mut [Arrival],
-) -> Result<Ends, Refusal>
+) -> Result<Checked, Refusal>
     ensures { WindowsAnswered (open_table S.state book.now) (loan_of schedule.now nodes.now couplings.now) flags.now windows.old windows.new column.old column.new result }
 {
     let places = windows.len().min(column.len());
-    let rows = rows_of(book, schedule, nodes, couplings, flags, places)?;
+    let rows = rows_of(book, schedule, nodes, couplings, flags.len(), places)?;
     let delays = Effective::under(rows.nodes, rows.couplings, flags);
     let circuit = rows.circuit(&delays);
     let mut starts = [Arrival::NoPath; MOST_NODES];
@@ -82,12 +85,14 @@ pub fn windows<S: Stage>(
         figures: &mut *column,
     };
     let found = find_latest(&circuit, &mut starts, &mut latest);
-    if let Ends::NoneAt { .. } = found.ends {
-        return Ok(found.ends);
+    if let Ends::NoneAt { latch } = found.ends {
+        return Ok(Checked::NoEnd { latch });
     }
+    let late = late_latch(&circuit, &latest);
     write_ends(&circuit, &starts, &latest, windows);
     let mut earliest = Column { figures: column };
     find_earliest(&circuit, &mut starts, &mut earliest);
+    let early = early_latch(&circuit, &earliest);
     write_begins(&circuit, &earliest, windows);
-    Ok(Ends::All)
+    Ok(Checked::Ended { late, early })
 }

@@ -1,20 +1,11 @@
 // What a design's rows say of connections and of where paths start.
 ghost use Rattle.std.specs.Prelude.{◌≡◌};
-ghost use Rattle.timing.specs.Connections.{phase_of, fed_from, shift_between, start_at};
+ghost use Rattle.timing.specs.Connections.{fed_from, shift_between, start_at};
 
 use super::edges::{early_opening, late_opening};
 use design::nodes::Node;
 use kinds::timings::Start;
 use schedule::Schedule;
-
-fn phase(node: &Node) -> u8
-    ensures { result ≡ phase_of node.now }
-{
-    match *node {
-        Node::Free => 0,
-        Node::Input { phase, .. } | Node::Gate { phase, .. } | Node::Latch { phase, .. } => phase,
-    }
-}
 
 // The nodes that a node is connected from.
 pub(crate) fn sources(node: &Node) -> &[u16]
@@ -31,8 +22,10 @@ pub(crate) fn sources(node: &Node) -> &[u16]
 pub(crate) fn shift(schedule: &Schedule, from: &Node, to: &Node) -> i64
     ensures { result ≡ shift_between schedule.now from.now to.now }
 {
-    if to.is_latch() || phase(from) != phase(to) {
-        schedule.forward_shift(phase(from), phase(to)).unwrap_or(0)
+    if to.is_latch() || from.phase() != to.phase() {
+        schedule
+            .forward_shift(from.phase(), to.phase())
+            .unwrap_or(0)
     } else {
         0
     }

@@ -1,7 +1,9 @@
 // When each node of a design may switch under a set of couplings.
 #![tactic(auto)]
 
+mod breaches;
 pub mod calls;
+pub mod checked;
 mod circuit;
 mod column;
 mod connections;
@@ -10,7 +12,7 @@ mod effective;
 mod find;
 pub mod flags;
 pub mod found;
-mod rows;
+pub mod rows;
 mod settle;
 mod sweep;
 #[cfg(test)]

@@ -4,7 +4,6 @@ ghost use Rattle.windows.specs.Lending.{RowsOf, IsCircuit};
 
 use super::circuit::Circuit;
 use super::effective::Effective;
-use super::flags::Flag;
 use design::couplings::Coupling;
 use design::nodes::Node;
 use refusals::Refusal;
@@ -14,10 +13,10 @@ use states::stages::Stage;
 
 // The granted rows of the lent tables, and their schedule.
 #[derive(Clone, Copy)]
-pub(crate) struct Rows<'a> {
-    pub(crate) schedule: &'a Schedule,
-    pub(crate) nodes: &'a [Node],
-    pub(crate) couplings: &'a [Coupling],
+pub struct Rows<'a> {
+    pub schedule: &'a Schedule,
+    pub nodes: &'a [Node],
+    pub couplings: &'a [Coupling],
 }
 
 impl<'a> Rows<'a> {
@@ -36,18 +35,18 @@ impl<'a> Rows<'a> {
 // The rows of a book; refused where a lent table has fewer than are granted, or where there are fewer flags than
 // couplings or fewer places than nodes.
 #[tactic(auto, using(states::proofs::Seen::table, states::proofs::Seen::first_taken))]
-pub(crate) fn rows_of<'a, S: Stage>(
+pub fn rows_of<'a, S: Stage>(
     book: &OpenBook<S>,
     schedule: &'a Schedule,
     nodes: &'a [Node],
     couplings: &'a [Coupling],
-    flags: &[Flag],
+    flags: usize,
     places: usize,
 ) -> Result<Rows<'a>, Refusal>
-    ensures { RowsOf (open_table S.state book.now) (loan_of schedule.now nodes.now couplings.now) flags.now places result }
+    ensures { RowsOf (open_table S.state book.now) (loan_of schedule.now nodes.now couplings.now) flags places result }
 {
     let counts = book.counts();
-    if flags.len() < counts.couplings || places < counts.nodes {
+    if flags < counts.couplings || places < counts.nodes {
         return Err(Refusal::Short);
     }
     Ok(Rows {

@@ -1,5 +1,7 @@
-// Small designs worked out by hand: windows under couplings, rings of latches, refusals, rows that somebody else wrote.
+// Small designs worked out by hand: windows under couplings, rings of latches, late and early latches, refusals, rows that
+// somebody else wrote.
 use super::calls::{earliest_arrivals, latest_arrivals, windows};
+use super::checked::{Breach, Checked};
 use super::edges::{is_early, is_late};
 use super::flags::Flag;
 use super::found::{Ends, LatestSweeps};
@@ -21,6 +23,12 @@ const UNTOUCHED: Window = Window {
 };
 
 const UNSWEPT: Arrival = Arrival::At(-7);
+
+// What is answered where every window has an end and no latch is late or early.
+const KEPT: Checked = Checked::Ended {
+    late: None,
+    early: None,
+};
 
 // Two phases that start at 0 and 50 in a period of 100, open for 40, so that each opening edge is 60. A connection to a
 // latch of the other phase shifts by 50, and to one of the same phase by 100.
@@ -121,7 +129,7 @@ impl Design {
         flags: &[Flag],
         table: &mut [Window],
         column: &mut [Arrival],
-    ) -> Result<Ends, Refusal> {
+    ) -> Result<Checked, Refusal> {
         windows(
             &self.draft,
             &self.schedule,
@@ -239,18 +247,12 @@ fn windows_under_couplings(rt: HostRuntime) -> Result<(), Fail> {
     let mut column = [UNSWEPT; 9];
     // Gate 4 switches from 62 + 10 to 64 + 20.
     let none = [Flag::Clear; 2];
-    assert_eq!(rt;
-        design.windows(&none, &mut table, &mut column),
-        Ok(Ends::All)
-    );
+    assert_eq!(rt; design.windows(&none, &mut table, &mut column), Ok(KEPT));
     assert!(rt; table == coupled_windows(window(72, 84)));
     // With the first coupling the least delay of gate 2 is 10 - 5 and the greatest 20 + 8: from 62 + 5 to 64 + 28. The
     // second disturbs gate 4 itself, and shows only behind it.
     let both = [Flag::Set; 2];
-    assert_eq!(rt;
-        design.windows(&both, &mut table, &mut column),
-        Ok(Ends::All)
-    );
+    assert_eq!(rt; design.windows(&both, &mut table, &mut column), Ok(KEPT));
     assert!(rt; table == coupled_windows(window(67, 92)));
     // A sealed table has the same windows as its draft.
     let Design {
@@ -272,7 +274,7 @@ fn windows_under_couplings(rt: HostRuntime) -> Result<(), Fail> {
             &mut table,
             &mut column
         ),
-        Ok(Ends::All)
+        Ok(KEPT)
     );
     assert!(rt; table == coupled_windows(window(72, 84)));
     Ok(())
@@ -322,9 +324,16 @@ fn rings(rt: HostRuntime) -> Result<(), Fail> {
     };
     assert_eq!(rt; settles.latest(&flags, &mut column), Ok(found));
     assert!(rt; column == [Arrival::At(60), Arrival::At(64), Arrival::At(104), UNSWEPT]);
+    // That is 104 - 95 after the late bound of latch 2.
     assert_eq!(rt;
         settles.windows(&flags, &mut table, &mut column),
-        Ok(Ends::All)
+        Ok(Checked::Ended {
+            late: Some(Breach {
+                latch: 2,
+                excess: 9
+            }),
+            early: None,
+        })
     );
     assert!(rt; table == [window(60, 60), window(62, 64), window(60, 104), UNTOUCHED]);
     // A ring that gains 1 a round: latch 2 climbs to 104, latch 0 to 61, and in the third sweep, one more than there are
@@ -332,7 +341,8 @@ fn rings(rt: HostRuntime) -> Result<(), Fail> {
     let grows = ring(7)?;
     let mut table = [UNTOUCHED; 4];
     let ends = Ends::NoneAt { latch: 0 };
-    assert_eq!(rt; grows.windows(&flags, &mut table, &mut column), Ok(ends));
+    let endless = Ok(Checked::NoEnd { latch: 0 });
+    assert_eq!(rt; grows.windows(&flags, &mut table, &mut column), endless);
     assert!(rt; table == [UNTOUCHED; 4]);
     assert_eq!(rt;
         grows.latest(&flags, &mut column),
@@ -352,7 +362,8 @@ fn latches_behind_a_growing_ring(rt: HostRuntime) -> Result<(), Fail> {
     // opening edge. Latches 3, 1 and 3 climb in three sweeps, latches 1, 3 and 0 are given no end in three more, and the
     // seventh finds nothing.
     let ends = Ends::NoneAt { latch: 0 };
-    assert_eq!(rt; design.windows(&flags, &mut table, &mut column), Ok(ends));
+    let endless = Ok(Checked::NoEnd { latch: 0 });
+    assert_eq!(rt; design.windows(&flags, &mut table, &mut column), endless);
     assert!(rt; table == [UNTOUCHED; 5]);
     assert_eq!(rt;
         design.latest(&flags, &mut column),
@@ -361,13 +372,63 @@ fn latches_behind_a_growing_ring(rt: HostRuntime) -> Result<(), Fail> {
     // Fed from itself, latch 0 is no longer behind the ring. Its own ring gains 4 - 100.
     design.feed(0, 0)?;
     let ends = Ends::NoneAt { latch: 1 };
-    assert_eq!(rt; design.windows(&flags, &mut table, &mut column), Ok(ends));
+    let endless = Ok(Checked::NoEnd { latch: 1 });
+    assert_eq!(rt; design.windows(&flags, &mut table, &mut column), endless);
     assert!(rt; table == [UNTOUCHED; 5]);
     assert_eq!(rt;
         design.latest(&flags, &mut column),
         Ok(LatestSweeps { ends, sweeps: 6 })
     );
     assert!(rt; column[0] == Arrival::At(-36) && column[4] == Arrival::NoEnd);
+    Ok(())
+}
+
+// Input 0 feeds latch 1 of its own phase, and latch 2 of the other, and drives gate 3, which feeds latch 4 of the other.
+fn far_apart() -> Result<Design, Refusal> {
+    let mut design = Design::empty()?;
+    design.input(40, 150)?;
+    design.latch(1, 4)?;
+    design.latch(2, 4)?;
+    design.gate(1, 10, 20, 0)?;
+    design.latch(2, 4)?;
+    design.feed(1, 0)?;
+    design.feed(2, 0)?;
+    design.feed(4, 3)?;
+    Ok(design)
+}
+
+#[test]
+fn lowest_late_and_lowest_early_latch(rt: HostRuntime) -> Result<(), Fail> {
+    let design = far_apart()?;
+    let flags = [Flag::Set; 0];
+    let mut table = [UNTOUCHED; 6];
+    let mut column = [UNSWEPT; 6];
+    // At latch 1 arrives 40 - 100 to 150 - 100, at latch 2 40 - 50 to 150 - 50, and at latch 4 40 + 10 - 50 to
+    // 150 + 20 - 50. All three are early, before 3, and the last two are late, after 95.
+    assert_eq!(rt;
+        design.windows(&flags, &mut table, &mut column),
+        Ok(Checked::Ended {
+            late: Some(Breach {
+                latch: 2,
+                excess: 5
+            }),
+            early: Some(Breach {
+                latch: 1,
+                excess: 63
+            }),
+        })
+    );
+    assert!(rt;
+        table
+            == [
+                window(40, 150),
+                window(60, 60),
+                window(60, 100),
+                window(40, 150),
+                window(60, 120),
+                UNTOUCHED
+            ]
+    );
     Ok(())
 }
 
