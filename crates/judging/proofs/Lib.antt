@@ -1,0 +1,4 @@
+-- The lemmas of this crate.
+pub mod Instance
+pub mod Meaning
+pub mod Uniqueness
