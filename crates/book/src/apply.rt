@@ -129,18 +129,15 @@ impl Book {
         }
     }
 
-    // Makes a call on a schedule and tables that are lent one by one, as to the functions above: `run` lends a part of each
-    // table, and through a loan a call can pass on a reference whole, but no part of it. The state is taken out of the book
-    // and put back, since `seal` and `reopen` take it by value.
-    pub(crate) fn make(
-        &mut self,
-        schedule: &mut Schedule,
-        nodes: &mut [Node],
-        couplings: &mut [Coupling],
-        call: &Call<'_>,
-    ) -> Result<Answer, Refusal>
-        ensures { Answered book_table self.old (loan_of schedule.old nodes.old couplings.old) (asked call.now) self.new (loan_of schedule.new nodes.new couplings.new) result }
+    // Makes a call; one that the state does not take is refused. The state is taken out of the book and put back, since
+    // `seal` and `reopen` take it by value.
+    pub fn apply(&mut self, tables: &mut Tables<'_>, call: &Call<'_>) -> Result<Answer, Refusal>
+        ensures answer { Answered book_table self.old (loan_in tables.old) (asked call.now) self.new (loan_in tables.new) result }
+        ensures same_tables { SameTables tables.old tables.new }
     {
+        let schedule = &mut *tables.schedule;
+        let nodes = &mut *tables.nodes;
+        let couplings = &mut *tables.couplings;
         let (book, answer) = match std::mem::replace(self, Book::Unopened) {
             Book::Unopened => on_unopened(schedule, nodes, couplings, call),
             Book::Draft(draft) => on_draft(draft, schedule, nodes, couplings, call),
@@ -148,13 +145,5 @@ impl Book {
         };
         *self = book;
         answer
-    }
-
-    // Makes a call; one that the state does not take is refused.
-    pub fn apply(&mut self, tables: &mut Tables<'_>, call: &Call<'_>) -> Result<Answer, Refusal>
-        ensures answer { Answered book_table self.old (loan_in tables.old) (asked call.now) self.new (loan_in tables.new) result }
-        ensures same_tables { SameTables tables.old tables.new }
-    {
-        self.make(tables.schedule, tables.nodes, tables.couplings, call)
     }
 }

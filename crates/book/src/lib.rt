@@ -4,7 +4,6 @@
 use states::{Draft, Sealed};
 
 mod apply;
-pub mod run;
 
 // A book before it is opened, while it is filled, and when it is sealed.
 #[derive(Drop)]

@@ -51,17 +51,17 @@ abbrev pub behind : Loan → List Node → List Coupling → Loan
 behind front back rest = loan_of front.schedule (front.nodes ++ back) (front.couplings ++ rest)
 
 -- a call lent the front of the tables cannot tell whether a book has more behind it
-alike_front : (b : Book) (front : Loan) (back : List Node) (rest : List Coupling) → Alike (lent_in front) (book_table b front) (book_table b (behind front back rest))
+pub alike_front : (b : Book) (front : Loan) (back : List Node) (rest : List Coupling) → Alike (lent_in front) (book_table b front) (book_table b (behind front back rest))
 alike_front Unopened front back rest = grind arith
 alike_front (Draft d) front back rest = grind (arith, length-first, first_lent)
 alike_front (Sealed s) front back rest = grind (arith, length-first, first_lent)
 
 -- the lent tables have every row of a table
-abbrev Fits : Lent → Table → Type 0
+abbrev pub Fits : Lent → Table → Type 0
 Fits l t = (length t.nodes ≤ l.nodes) × (length t.couplings ≤ l.couplings)
 
 -- two tables that a call cannot tell apart are the same, where every row is lent to it
-alike_same : (l : Lent) (t u : Table) → Alike l t u → Fits l t → u ≡ t
+pub alike_same : (l : Lent) (t u : Table) → Alike l t u → Fits l t → u ≡ t
 alike_same l t u h fits = grind (arith, take_all)
 
 -- a call that is granted to an open book is lent every row that is granted then
