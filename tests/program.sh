@@ -1,6 +1,6 @@
 #!/usr/bin/env bash
 # Runs the program clockmark, as the gate built it, on what a stored input cannot show: how much it reads, how long a text
-# may be, and that every line of any bytes gets one answer.
+# may be, that every line of any bytes gets one answer, and how long the longest answer is.
 set -u -o pipefail
 cd "$(dirname "$0")/.." || exit 1
 
@@ -44,6 +44,17 @@ for code in $(seq 0 255); do
   printf "\\x$(printf '%02x' "$code")8\\n"
 done > "$work/in"
 expect 'every byte gets an answer' '0C x241, 0D x15, 0E x1'
+
+# As many nodes and couplings as a text may enter, judged: a line of 31 characters, 256 of 33, and 256 of 3.
+{ cat tests/texts/full.txt; echo '0702'; } > "$work/in"
+"$program" < "$work/in" > "$work/out"
+longest=$(tail -n 513 "$work/out" | wc -c)
+verdict=$(tail -n 513 "$work/out" | sed -n 1p)
+if [ "$((longest))" -ne $((31 + 33 * 256 + 3 * 256)) ] || [ "$verdict" != '00FFFF000000000000000000020100' ]; then
+  echo "a verdict on 256 nodes and 256 couplings is printed as $((longest)) bytes that begin with $verdict" >&2
+  exit 1
+fi
+echo 'a verdict on 256 nodes and 256 couplings is printed whole: ok'
 
 # The rest of a long input is left to the next reader, which shows how much was read.
 head -c 100000 /dev/zero | tr '\0' '8' > "$work/long"

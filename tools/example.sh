@@ -19,6 +19,30 @@ if ! rt run < "$text" > "$answers" 2> "$told"; then
 fi
 
 awk '
+  # a number in hexadecimal digits
+  function number(digits, value, k) {
+    value = 0
+    for (k = 1; k <= length(digits); k++) value = 16 * value + index("0123456789ABCDEF", substr(digits, k, 1)) - 1
+    return value
+  }
+  # a number in twos complement
+  function signed(digits, value, k) {
+    if (number(substr(digits, 1, 1)) < 8) return number(digits)
+    value = 0
+    for (k = 1; k <= length(digits); k++) value = 16 * value + 16 - index("0123456789ABCDEF", substr(digits, k, 1))
+    return -value - 1
+  }
+  # the verdict that a line of 30 digits tells
+  function verdict(line, kind, text) {
+    kind = substr(line, 1, 2)
+    text = kind == "00" ? "passes" : means[kind]
+    if (kind != "00") text = text ", latch " number(substr(line, 3, 4))
+    if (kind == "41" || kind == "42") text = text " by " signed(substr(line, 7, 16))
+    return text "; rounds: " number(substr(line, 23, 4)) ", flags set: " number(substr(line, 27, 4))
+  }
+  function row(line, said, read, meaning) {
+    printf "%4s  %-6s  %-52s  %s\n", line, said, read, meaning
+  }
   BEGIN {
     means["00"] = "granted"
     means["01"] = "full: as many rows are granted as the book takes, or the text is too long"
@@ -34,12 +58,31 @@ awk '
     means["0C"] = "digits: empty, odd in length, or a character that is no digit"
     means["0D"] = "frame: unknown kind or rule, or the wrong length"
     means["0E"] = "order: the book does not take this kind of frame now"
-    printf "%4s  %-6s  %-52s  %s\n", "line", "answer", "read", "meaning"
+    means["40"] = "gain: windows without an end"
+    means["41"] = "late"
+    means["42"] = "early"
+    row("line", "answer", "read", "meaning")
   }
   NR == FNR { answer[NR] = $0; next }
   {
-    meaning = means[substr(answer[FNR], 1, 2)]
-    if (length(answer[FNR]) == 6) meaning = meaning ", number " substr(answer[FNR], 3)
-    printf "%4d  %-6s  %-52s  %s\n", FNR, answer[FNR], $0, meaning
+    said = answer[++place]
+    meaning = means[substr(said, 1, 2)]
+    if (length(said) == 6) {
+      meaning = meaning ", number " substr(said, 3)
+      if (substr($0, 1, 2) == "06") couplings++
+      else nodes++
+    }
+    if (length(said) != 30) {
+      row(FNR, said, $0, meaning)
+      next
+    }
+    # A verdict, whose windows and flags follow in lines of their own.
+    kind = substr(said, 1, 2)
+    row(FNR, kind, $0, verdict(said))
+    for (v = 0; v < nodes && kind != "40"; v++) {
+      said = answer[++place]
+      row("", "", "", "node " v " may switch from " signed(substr(said, 1, 16)) " to " signed(substr(said, 17)))
+    }
+    for (c = 0; c < couplings; c++) row("", "", "", "coupling " c (answer[++place] == "01" ? " acts" : " does not act"))
   }
 ' "$answers" "$text"

@@ -1,5 +1,5 @@
--- A line put to the book, by what it asks.
-use Rattle.std.proofs.Common.{◌≡◌, ℕ, Bool, List, Some, Ok, Err, Result, arith}
+-- A frame put to the book, by what it asks.
+use Rattle.std.proofs.Common.{◌≡◌, Bool, Some, Ok, Err, Result, arith}
 use Rattle.refusals.specs.declared.Refusal.{Refusal}
 use Rattle.frames.specs.Frames.{Content}
 use Rattle.design.specs.declared.calls.Answer.{Answer}
@@ -8,22 +8,21 @@ use Rattle.design.specs.Calls.{Ask}
 use Rattle.design.specs.Effects.{Answered}
 use Rattle.book.specs.declared.Book.{Book}
 use Rattle.book.specs.Views.{book_table, state_of}
-use Rattle.reading.specs.Line.{line_frame}
 use Rattle.loading.specs.Asking.{asks}
-use Rattle.loading.specs.Outcomes.{called, line_outcome}
-use Rattle.loading.specs.Loads.{LineTaken}
+use Rattle.loading.specs.Outcomes.{called, framed}
+use Rattle.loading.specs.Loads.{FrameTaken}
 
 -- a book's table is in the state of the book
 state_seen : (b : Book) (loan : Loan) → (book_table b loan).state ≡ state_of b
 state_seen b loan = grind arith
 
 -- a frame that asks for a call
-pub through : (b b' : Book) (loan loan' : Loan) (line : List ℕ) (f : Content) (opened : Bool) (c : Ask) (r : Result Answer Refusal) → line_frame line ≡ Ok f → opened ≡ is_open (state_of b) → asks opened f ≡ Some c → Answered book_table b loan c b' loan' r → LineTaken b loan line b' loan' r
-through b b' loan loan' line f opened c (Ok x) is same a h =
+pub through : (b b' : Book) (loan loan' : Loan) (f : Content) (opened : Bool) (c : Ask) (r : Result Answer Refusal) → opened ≡ is_open (state_of b) → asks opened f ≡ Some c → Answered book_table b loan c b' loan' r → FrameTaken b loan f b' loan' r
+through b b' loan loan' f opened c (Ok x) same a h =
     let seen = state_seen b loan in
-    let put : line_outcome (lent_in loan) (book_table b loan) line ≡ called (lent_in loan) (book_table b loan) (Some c) = cc in
+    let put : framed (lent_in loan) (book_table b loan) (Ok f) ≡ called (lent_in loan) (book_table b loan) (Some c) = cc in
     (cc, cc, h.3, λ why x. absurd cc)
-through b b' loan loan' line f opened c (Err why) is same a h =
+through b b' loan loan' f opened c (Err why) same a h =
     let seen = state_seen b loan in
-    let put : line_outcome (lent_in loan) (book_table b loan) line ≡ called (lent_in loan) (book_table b loan) (Some c) = cc in
+    let put : framed (lent_in loan) (book_table b loan) (Ok f) ≡ called (lent_in loan) (book_table b loan) (Some c) = cc in
     (cc, cc, (cc, cc), λ x y. (h.1, h.2))

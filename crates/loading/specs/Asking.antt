@@ -23,7 +23,7 @@ sources_listed count listed = map (λ k. number_at 2 (2 * k) listed) (range_with
 abbrev pub asks_clock : Bool → Clock → Ask
 asks_clock opened clock = cond opened (retime clock) (open_with clock)
 
--- what a frame of a kind asks; a verify asks for no call that there is
+-- what a frame of a kind asks; a verify asks for no call that makes or changes the table
 abbrev pub asks_as : Kind → Bool → Content → Option Ask
 asks_as Schedule opened f = Some (asks_clock opened (clock_in (field f 0) (field f 1) (field f 2) f.listed))
 asks_as Input opened f = Some (input (field f 0) (field f 1) (field f 2))

@@ -1,2 +1,4 @@
 -- The definitions of this crate, in reading order.
 pub mod Printing
+pub mod Replies
+pub mod Theorems

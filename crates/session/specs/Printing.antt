@@ -1,61 +1,104 @@
--- What is printed for a line, and for a whole text.
-use Rattle.std.specs.Prelude.{◌≡◌, ℕ, ◌<◌, ◌≤◌, cond, List, [], ◌∷◌, ◌++◌, length, take, drop, Ok, Err, Result, nat_le}
+-- What is printed for a line, for lines one after another, and for a whole text.
+use Rattle.std.specs.Prelude.{◌≡◌, ℕ, ◌≤◌, Bool, true, false, List, [], ◌∷◌, ◌++◌, length, take, Some, None, Ok, Err, Option, Result, nat_le}
 use Rattle.refusals.specs.declared.Refusal.{Refusal}
-use Rattle.refusals.specs.declared.Refusal.TheVariants.{Full, Short}
+use Rattle.refusals.specs.declared.Refusal.TheVariants.{Full}
 use Rattle.refusals.specs.Numbers.{number_of}
 use Rattle.schedule.specs.Clock.{Clock}
-use Rattle.text.specs.declared.lines.Lines.{Lines}
-use Rattle.text.specs.Lines.{lines_of, Reads}
+use Rattle.text.specs.Lines.{lines_of}
 use Rattle.text.specs.Spelling.{line_for}
-use Rattle.frames.specs.Frames.{bytes_in}
+use Rattle.frames.specs.declared.kinds.Kind.{Kind}
+use Rattle.frames.specs.declared.kinds.Kind.TheVariants.{Schedule, Input, Gate, Latch, Feed, Couple, Verify, Seal, Reopen}
+use Rattle.frames.specs.declared.rules.Rule.{Rule}
+use Rattle.frames.specs.Rules.{rule_of}
+use Rattle.frames.specs.Frames.{Content, bytes_in}
+use Rattle.reading.specs.Line.{line_frame}
 use Rattle.design.specs.declared.calls.Answer.{Answer}
 use Rattle.design.specs.declared.calls.Answer.TheVariants.{Done, Node, Coupling}
-use Rattle.design.specs.Table.{Table, Lent, Loan, lent_in, unopened_table}
-use Rattle.book.specs.declared.Book.{Book}
-use Rattle.book.specs.Views.{book_table}
+use Rattle.design.specs.Table.{Table, unopened_table}
+use Rattle.timing.specs.declared.windows.Window.{Window}
+use Rattle.windows.specs.declared.flags.Flag.{Flag}
+use Rattle.rules.specs.Questions.{Question}
+use Rattle.rules.specs.Named.{named}
+use Rattle.judging.specs.declared.verdict.Judgement.{Judgement}
+use Rattle.verifying.specs.Answers.{JudgedRight}
+use Rattle.reporting.specs.Report.{report_of}
+use Rattle.calling.specs.Requests.{LentRows, of_book, verify_refusal}
+use Rattle.loading.specs.Asking.{field}
 use Rattle.loading.specs.Outcomes.{line_outcome}
-use Rattle.loading.specs.Loads.{LineTaken}
 
--- The bytes that answer a line: 0 where it is granted, and the number of a node or coupling in two bytes; else the number of the refusal.
+-- The bytes that answer a call on the table: 0 where it is granted, and the number of a node or coupling in two bytes; else the number of the refusal.
 abbrev pub bytes_for : Result Answer Refusal → List ℕ
 bytes_for (Ok Done) = 0 ∷ []
 bytes_for (Ok (Node k)) = 0 ∷ bytes_in 2 k
 bytes_for (Ok (Coupling k)) = 0 ∷ bytes_in 2 k
 bytes_for (Err why) = number_of why ∷ []
 
--- what is printed for a line
-abbrev pub reply : Lent → Table → List ℕ → List ℕ
-reply l t line = line_for (bytes_for (line_outcome l t line).answer)
+-- the line of an answer
+abbrev pub answer_line : Result Answer Refusal → List ℕ
+answer_line answer = line_for (bytes_for answer)
 
--- what is printed for lines one after another, each put to the table that the one before it leaves
-abbrev pub output : Lent → Table → List (List ℕ) → List ℕ
-output l t [] = []
-output l t (line ∷ others) = reply l t line ++ output l (line_outcome l t line).table others
+-- the line of a refusal
+abbrev pub refusal_line : Refusal → List ℕ
+refusal_line why = line_for (number_of why ∷ [])
 
--- how many bytes the longest reply has
-abbrev pub longest_reply : ℕ
-longest_reply = 7
+-- the report of a judgement of a table: of the windows those of its nodes, of the flags those of its couplings
+abbrev pub report_on : Table → Judgement → List Flag → List Window → List ℕ
+report_on t j flags windows = report_of j (take (length t.nodes) windows) (take (length t.couplings) flags)
+
+-- the rule that a frame of a kind asks to judge the table under: only a verify does
+abbrev pub rule_in : Kind → Content → Option Rule
+rule_in Schedule f = None
+rule_in Input f = None
+rule_in Gate f = None
+rule_in Latch f = None
+rule_in Feed f = None
+rule_in Couple f = None
+rule_in Verify f = rule_of (field f 0)
+rule_in Seal f = None
+rule_in Reopen f = None
+
+-- the rule of a line that is a verify
+abbrev pub rule_asked : Result Content Refusal → Option Rule
+rule_asked (Ok f) = rule_in f.kind f
+rule_asked (Err why) = None
+
+-- What is printed for a verify of a table: the number of the refusal; or else the report of a judgement that is right, with a flag for each coupling and a window for each node.
+abbrev pub PrintsVerdict : Option Refusal → Table → (Question → Bool) → List ℕ → Type 0
+PrintsVerdict (Some why) t sees printed = printed ≡ refusal_line why
+PrintsVerdict None t sees printed =
+    (j : Judgement) × (flags : List Flag) × (windows : List Window)
+    × (length t.couplings ≤ length flags)
+    × (length t.nodes ≤ length windows)
+    × JudgedRight t sees j flags windows
+    × (printed ≡ report_on t j flags windows)
+
+-- what is printed for a line that asks for a verdict under a rule, or for none
+abbrev pub PrintsAs : Option Rule → LentRows → Table → List ℕ → List ℕ → Type 0
+PrintsAs None l t line printed = printed ≡ answer_line (line_outcome (of_book l) t line).answer
+PrintsAs (Some rule) l t line printed = PrintsVerdict (verify_refusal l t) t (named rule) printed
+
+-- What is printed for a line on a table: the verdict for a verify, and for any other line the answer.
+abbrev pub Prints : LentRows → Table → List ℕ → List ℕ → Type 0
+Prints l t line printed = PrintsAs (rule_asked (line_frame line)) l t line printed
+
+-- What is printed for lines one after another, each on the table that the one before it leaves; a verify leaves it as it is.
+abbrev pub PrintsAll : LentRows → Table → List (List ℕ) → List ℕ → Type 0
+PrintsAll l t [] printed = printed ≡ []
+PrintsAll l t (line ∷ others) printed =
+    (first : List ℕ) × (rest : List ℕ)
+    × (printed ≡ first ++ rest)
+    × Prints l t line first
+    × PrintsAll l (line_outcome (of_book l) t line).table others rest
 
 -- how many bytes a text may have
 abbrev pub greatest_text : ℕ
 greatest_text = 65536
 
--- what is printed for a text whose lines are put to a book that is not opened; a text that is too long is refused whole
-abbrev pub output_of : Lent → Clock → List ℕ → List ℕ
-output_of l clock text = cond (nat_le (length text) greatest_text) (output l (unopened_table clock) (lines_of text)) (line_for (number_of Full ∷ []))
+-- what is printed for a text that may be so long, or that is too long
+abbrev pub OutputIf : Bool → LentRows → Clock → List ℕ → List ℕ → Type 0
+OutputIf true l clock text printed = PrintsAll l (unopened_table clock) (lines_of text) printed
+OutputIf false l clock text printed = printed ≡ refusal_line Full
 
--- admitting a text hands out its reader: its output is that of its lines, or of the refusal
-abbrev pub Admitted : List ℕ → Result Lines Refusal → Type 0
-Admitted text (Ok lines) = (length text ≤ greatest_text) × Reads text lines × ((l : Lent) (clock : Clock) → output_of l clock text ≡ output l (unopened_table clock) (lines_of text))
-Admitted text (Err why) = (greatest_text < length text) × (why ≡ Full) × ((l : Lent) (clock : Clock) → output_of l clock text ≡ line_for (number_of why ∷ []))
-
--- answering a line: the reply is written, the book and its tables do what the line says, and what is printed for the lines that follow starts from there
-abbrev pub Replied : Book → Loan → List ℕ → List ℕ → Book → Loan → List ℕ → Result ℕ Refusal → Type 0
-Replied b loan line old b' loan' new (Ok n) =
-    (longest_reply ≤ length old)
-    × (n ≤ longest_reply)
-    × (n ≡ length (reply (lent_in loan) (book_table b loan) line))
-    × (new ≡ reply (lent_in loan) (book_table b loan) line ++ drop n old)
-    × LineTaken b loan line b' loan' (line_outcome (lent_in loan) (book_table b loan) line).answer
-    × ((others : List (List ℕ)) → output (lent_in loan) (book_table b loan) (line ∷ others) ≡ take n new ++ output (lent_in loan) (book_table b' loan') others)
-Replied b loan line old b' loan' new (Err why) = (length old < longest_reply) × (why ≡ Short) × (new ≡ old) × (b' ≡ b) × (loan' ≡ loan)
+-- What is printed for a text whose lines are put to a book that is not opened. A text that is too long is refused whole.
+abbrev pub OutputOf : LentRows → Clock → List ℕ → List ℕ → Type 0
+OutputOf l clock text printed = OutputIf (nat_le (length text) greatest_text) l clock text printed
