@@ -5,23 +5,30 @@
 set -u -o pipefail
 cd "$(dirname "$0")/.." || exit 1
 
-# A repository of the libraries, with what checks of them have kept, and of one program that is another each time.
+# A repository of the libraries, with what checks of them have kept, and of a program that is another each time: one that
+# stands on the states of a book alone, so that its check reads little, and one that verifies.
 work=$(mktemp -d) || exit 1
 trap 'rm -rf "$work"' EXIT
-libraries='refusals schedule design states'
-mkdir -p "$work/crates/program/src" || exit 1
+states='refusals schedule design states'
+libraries='refusals schedule frames design closing paths kinds rings timing states windows rules judging verifying'
+mkdir -p "$work/crates/changes/src" "$work/crates/verifies/src" || exit 1
 {
   for library in $libraries; do
     cp -r "crates/$library" "$work/crates/" || exit 1
     grep "^$library:" crates.txt || exit 1
   done
-  echo "program: $libraries"
+  echo "changes: $states"
+  echo "verifies: $libraries"
 } > "$work/crates.txt"
 
 # judge TEXT: what the check says of the program, and its status
 judge() {
-  cp "$1" "$work/crates/program/src/lib.rt"
-  (cd "$work/crates/program" && rt check) > "$work/said" 2>&1
+  local program=changes
+  if grep -q '^use verifying::' "$1"; then
+    program=verifies
+  fi
+  cp "$1" "$work/crates/$program/src/lib.rt"
+  (cd "$work/crates/$program" && rt check) > "$work/said" 2>&1
 }
 
 fail() {
