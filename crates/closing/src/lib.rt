@@ -9,7 +9,7 @@ pub mod theorem;
 
 use theorem::Theorem;
 
-// Rounds end, with an outcome that is right.
+// From a set within every closed set there are rounds; they are few, and their outcome is right.
 pub fn rounds_close() -> Theorem
     ensures theorem { RoundsClose }
     ensures value { result ≡ Theorem.RoundsClose }
@@ -17,7 +17,7 @@ pub fn rounds_close() -> Theorem
     Theorem::RoundsClose
 }
 
-// Rounds from the same set are equally many, with the same outcome.
+// Rounds from the same set are equally many, with the same outcome for the flags that there are.
 pub fn rounds_unique() -> Theorem
     ensures theorem { RoundsUnique }
     ensures value { result ≡ Theorem.RoundsUnique }
@@ -25,7 +25,7 @@ pub fn rounds_unique() -> Theorem
     Theorem::RoundsUnique
 }
 
-// Whatever rounds were made are few, and their outcome is right.
+// Whatever rounds were made from a set within every closed set: they are few, and their outcome is right.
 pub fn rounds_mean() -> Theorem
     ensures theorem { RoundsMean }
     ensures value { result ≡ Theorem.RoundsMean }

@@ -1,5 +1,6 @@
 // Verdicts on a design: closed sets of couplings, the rounds that find the least of them, and what is judged of the
-// windows under it. Each function here stands for the theorem that its contract names.
+// windows under it. Each function here stands for the theorem that its contract names, of tables that stand and lawful
+// rules.
 #![tactic(auto)]
 
 ghost use Rattle.std.specs.Prelude.{◌≡◌};
@@ -10,7 +11,7 @@ pub mod verdict;
 
 use theorem::Theorem;
 
-// What a verdict says of the closed sets of a table is right.
+// What a judgement of a table says of closed sets is right.
 pub fn verdicts_are_right() -> Theorem
     ensures theorem { VerdictsAreRight }
     ensures value { result ≡ Theorem.VerdictsAreRight }

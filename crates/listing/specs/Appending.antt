@@ -12,8 +12,7 @@ greatest_end = 2 ^ 64 - 1
 abbrev pub end_with : List Content → Listing → ℕ
 end_with fs s = s.end + length (lines_for fs)
 
--- The lines of frames put behind those that a listing has: counted up to the greatest count, and written into the same
--- buffer if they end within it.
+-- The lines of frames put behind those that a listing has: counted up to the greatest count, and written into the same buffer if they end within it.
 pub record Appends (fs : List Content) (s t : Listing) : Type 0 where
   pub same_buffer : t.out.ghost_name ≡ s.out.ghost_name
   pub same_length : length t.out.now ≡ length s.out.now

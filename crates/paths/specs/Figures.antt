@@ -38,6 +38,6 @@ every p = true
 abbrev pub Unbounded : {n : Network} {v : ℕ} → Measure ℤ → (Path n v → Bool) → Type 0
 Unbounded {n} {v} m picks = (bound : ℤ) → (p : Path n v) × (picks p ≡ true) × (bound <ℤ figure m p)
 
--- the figures of all paths to a node do
+-- a node without an end: the figures of all paths to it grow past every number
 abbrev pub NoEnd : (n : Network) → Measure ℤ → ℕ → Type 0
 NoEnd n m v = Unbounded {n = n} {v = v} m every

@@ -9,7 +9,8 @@ pub mod theorem;
 
 use theorem::Theorem;
 
-// Where a path is above all those that enter no more latches than there are, their figures have no end.
+// Where a path to a node is above all those that enter no more latches than there are, the figures of the paths to this
+// node have no end.
 pub fn overtaken() -> Theorem
     ensures theorem { Overtaken }
     ensures value { result ≡ Theorem.Overtaken }

@@ -8,7 +8,7 @@ use Rattle.frames.specs.Frames.{number_at}
 abbrev pub starts_in : List ℕ → List ℕ
 starts_in listed = map (λ k. number_at 4 (8 * k) listed) (range_with_len 0 greatest_phases)
 
--- their widths
+-- the widths of these phases
 abbrev pub widths_in : List ℕ → List ℕ
 widths_in listed = map (λ k. number_at 4 (8 * k + 4) listed) (range_with_len 0 greatest_phases)
 

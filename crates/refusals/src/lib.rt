@@ -11,19 +11,33 @@ mod tests;
 // Why a line or a call is refused; each case is one test.
 #[derive(Clone, Copy, PartialEq, Eq, Debug)]
 pub enum Refusal {
+    // As many rows are granted as the book takes, or a text is longer than a program reads.
     Full = 1,
+    // A phase that the schedule does not have.
     Phase,
+    // An earliest time above the latest, or a least delay above the greatest.
     Span,
+    // A figure of a row above its limit.
     Figure,
+    // A gate with another count of sources than 1 to 4.
     Fan,
+    // No such node, or one of a kind that is not allowed there.
     Node,
+    // A victim that is its own aggressor, or that has the aggressor already.
     Pair,
+    // Assisting amounts of a victim that would exceed its least delay.
     Assist,
+    // A schedule that is not lawful, or that has another number of phases than the one before.
     Clock,
+    // A seal while a latch has no source.
     Unfed,
+    // A table or a buffer with fewer places than the call needs.
     Short,
+    // A line that is empty, has half a byte, or has a character that is no digit.
     Digits,
+    // Bytes of an unknown kind, with an unknown rule, or of a wrong length.
     Frame,
+    // A call that the state of the book does not take.
     Order,
 }
 

@@ -94,7 +94,7 @@ PrintsAll l t (line ∷ others) printed =
 abbrev pub greatest_text : ℕ
 greatest_text = 65536
 
--- what is printed for a text that may be so long, or that is too long
+-- what is printed for a text, by whether it is short enough to be read
 abbrev pub OutputIf : Bool → LentRows → Clock → List ℕ → List ℕ → Type 0
 OutputIf true l clock text printed = PrintsAll l (unopened_table clock) (lines_of text) printed
 OutputIf false l clock text printed = printed ≡ refusal_line Full

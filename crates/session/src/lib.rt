@@ -148,7 +148,7 @@ pub fn one_output() -> Theorem
     Theorem::OneOutput
 }
 
-// A table so far is one after any line.
+// Any line leaves a table so far a table so far.
 pub fn lines_keep_so_far() -> Theorem
     ensures theorem { LinesKeepSoFar }
     ensures value { result ≡ Theorem.LinesKeepSoFar }

@@ -13,7 +13,7 @@ late_gain t S k v = (delays_under t.nodes t.couplings S k).greatest -ℤ shift_b
 abbrev pub late_start : Table → ℕ → ℤ
 late_start t v = (start_at t.clock (row t.nodes v)).latest
 
--- late figures
+-- late figures as a measure: what a path starts with, and what each step adds
 abbrev pub late : Table → (ℕ → Bool) → Measure ℤ
 late t S = adding (late_start t) (late_gain t S)
 
@@ -25,6 +25,6 @@ early_gain t S k v = (delays_under t.nodes t.couplings S k).least -ℤ shift_bet
 abbrev pub early_start : Table → ℕ → ℤ
 early_start t v = (start_at t.clock (row t.nodes v)).earliest
 
--- early figures
+-- early figures as a measure: what a path starts with, and what each step adds
 abbrev pub early : Table → (ℕ → Bool) → Measure ℤ
 early t S = adding (early_start t) (early_gain t S)

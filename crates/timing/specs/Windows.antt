@@ -18,7 +18,7 @@ PathTo t v = Path (network t.nodes) v
 abbrev pub Ends : Table → (ℕ → Bool) → ℕ → ℤ → Type 0
 Ends t S v f = Greatest {n = network t.nodes} {v = v} (late t S) every f
 
--- a window has no end if these grow past every number
+-- a window has no end if the late figures of the node's paths grow past every number
 abbrev pub HasNoEnd : Table → (ℕ → Bool) → ℕ → Type 0
 HasNoEnd t S v = NoEnd (network t.nodes) (late t S) v
 

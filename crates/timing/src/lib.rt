@@ -18,7 +18,7 @@ pub fn windows_are_one() -> Theorem
     Theorem::WindowsAreOne
 }
 
-// A node with a window has an end.
+// No node has both a window and late figures without an end.
 pub fn windows_end() -> Theorem
     ensures theorem { WindowsEnd }
     ensures value { result ≡ Theorem.WindowsEnd }

@@ -110,7 +110,8 @@ fn gate(least: u32, greatest: u32, sources: &[u16; 1]) -> Gate<'_> {
     }
 }
 
-// Latch 0 drives gates 2 and 3, gate 2 drives gate 4, which feeds latch 6, and latch 6 feeds latch 0. Input 1 drives gate 5.
+// Latch 0 drives gates 2 and 3, gate 2 drives gate 4, which feeds latch 6, and latch 6 feeds latch 0. Input 1
+// drives gate 5.
 fn coupled(opposing: u32, hold: u32) -> Result<Design, Refusal> {
     let mut schedule = Schedule::blank();
     let mut nodes = [Node::Free; 8];

@@ -33,8 +33,8 @@ fn show(checked: Checked, count: usize, found: &[Window], windows: &mut [Window]
 }
 
 // Judges a sealed table: finds the least closed set of its couplings under the rule, in rounds that begin without flags,
-// and the verdict on the windows under it; or that no set is closed, where a window has no end. The flags of the last round stand in `flags`, and its windows in `windows`
-// unless one has no end. The column is room to work in.
+// and the verdict on the windows under it; or that no set is closed, where a window has no end. The flags of the last
+// round stand in `flags`, and its windows in `windows` unless one has no end. The column is room to work in.
 pub fn verify<R: CouplingRule>(
     book: &Sealed,
     schedule: &Schedule,
