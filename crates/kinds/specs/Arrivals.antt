@@ -33,11 +33,11 @@ latest_kind = record { no_path = NoPath; join = joined_by int_max; step = steppe
 abbrev pub earliest_kind : Kind Arrival ℤ
 earliest_kind = record { no_path = NoPath; join = joined_by int_min; step = stepped }
 
--- when a path starts at the latest
+-- what a late figure starts with: the latest moment at which a path may start
 abbrev pub latest_start : Start → Arrival
 latest_start s = At s.latest
 
--- when a path starts at the earliest
+-- what an early figure starts with: the earliest moment at which a path may start
 abbrev pub earliest_start : Start → Arrival
 earliest_start s = At s.earliest
 

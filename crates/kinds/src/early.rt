@@ -75,4 +75,8 @@ impl DelayKind for Earliest {
     fn without_end(start: Arrival, _arrival: Arrival) -> Arrival {
         start
     }
+
+    fn same(one: Arrival, other: Arrival) -> bool {
+        one == other
+    }
 }

@@ -78,4 +78,8 @@ impl DelayKind for Latest {
             start
         }
     }
+
+    fn same(one: Arrival, other: Arrival) -> bool {
+        one == other
+    }
 }

@@ -1,7 +1,7 @@
 // Kinds of delay: what one sweep can carry through a design.
 #![tactic(auto)]
 
-ghost use Rattle.std.specs.Prelude.{◌≡◌, ℕ, ◌<◌, ◌≤◌, true, false, ℤ};
+ghost use Rattle.std.specs.Prelude.{◌≡◌, ℕ, ◌<◌, ◌≤◌, ◌↔◌, true, false, ℤ};
 ghost use Rattle.paths.specs.Kinds.{Kind, Lawful, Restarts};
 ghost use Rattle.paths.specs.Sweeps.{FindsShortPaths};
 ghost use Rattle.kinds.specs.declared.timings.Start.{Start};
@@ -68,6 +68,10 @@ pub trait DelayKind {
     // What a latch starts from where whatever still climbs has no end.
     fn without_end(start: Self::Figure, arrival: Self::Figure) -> Self::Figure
         ensures { result ≡ restarts.without_end start arrival };
+
+    // Whether two figures are the same.
+    fn same(one: Self::Figure, other: Self::Figure) -> bool
+        ensures { result ≡ true ↔ one ≡ other };
 
     // a join ignores the mark, and the others of its laws
     ghost laws: { Lawful kind };

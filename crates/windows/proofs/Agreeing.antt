@@ -24,6 +24,7 @@ use Rattle.paths.specs.Sweeps.{arrives_short}
 use Rattle.kinds.specs.Arrivals.{latest_restarts, earliest_restarts}
 use Rattle.rings.specs.Found.{LatestFound, IsEarliest}
 use Rattle.rings.proofs.Latest.{latest_settles}
+use Rattle.rings.proofs.Beginning.{opening_begins}
 use Rattle.rings.proofs.Earliest.{earliest_settles}
 use Rattle.windows.specs.declared.circuit.Circuit.{Circuit}
 use Rattle.windows.specs.Delays.{delays_at}
@@ -94,7 +95,10 @@ pub latest_of : (t : Table) (couplings : ℕ → Bool) (c : Circuit) → Stands 
     Settled latest_kind (network_of c) (course_of latest_start latest_between c) latest_restarts (latch_count (network_of c) * 1) (first_of latest_start c) made starts column →
     LatestFound (network t.nodes) (late_start t) (late_gain t couplings) starts column
 latest_of t couplings c stands shows made starts column s =
-    latest_settles (network t.nodes) _ (late_start t) (late_gain t couplings) made starts column (stands_sound t stands) (stands_says_latest t couplings stands) (latest_shown t couplings c stands shows made starts column s)
+    let sound = stands_sound t stands in
+    let says = stands_says_latest t couplings stands in
+    latest_settles (network t.nodes) _ (late_start t) (late_gain t couplings) (λ v. At (late_start t v)) made starts column sound says
+    (opening_begins (network t.nodes) _ (late_start t) (late_gain t couplings) sound says) (latest_shown t couplings c stands shows made starts column s)
 
 -- what sweeps of the earliest kind have found over a circuit that shows a table
 pub earliest_of : (t : Table) (couplings : ℕ → Bool) (c : Circuit) → Stands t → Shows t couplings c → (limit : ℕ) (made : ℕ) (starts column : ℕ → Arrival) →

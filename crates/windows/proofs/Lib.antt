@@ -1,8 +1,9 @@
 -- The lemmas of this crate.
 pub mod Disturbing
+pub mod Blocking
 pub mod Sweeping
-pub mod Passing
 pub mod Settles
+pub mod Waking
 pub mod Agreeing
 pub mod Reading
 pub mod Breaching

@@ -55,11 +55,11 @@ module _ {F : Type 0} (no_path : F) (can : F → ℕ) (r : Restarts F) (falls : 
       (cases_Bool (r.climbs start arrival))
 
   -- a sweep after which a latch climbs brings the limit nearer, or leaves fewer figures that can climb
-  pub nearer : (column old new : List F) (climbs : Bool) → climbs ≡ true → PassedOn no_path r n made limit column old new climbs →
+  pub nearer : (column old new : List F) (climbs : Bool) → climbs ≡ true → PassedOn no_path r n made limit 0 n.size column old new climbs →
       (limit - (made + 1)) + climbing can n.size (figure_at no_path new) < (limit - made) + climbing can n.size (figure_at no_path old)
   nearer column old new climbs e p =
       let le : (v : ℕ) → v < n.size → can (figure_at no_path new v) ≤ can (figure_at no_path old v) =
-      λ v lt. rw (p.next v lt)
+      λ v lt. rw (p.next v (omega arith) lt)
       (⊎_elim
       (λ (l : n.is_latch v ≡ true). rw l (next_falls (figure_at no_path old v) (figure_at no_path column v)))
       (λ (l : n.is_latch v ≡ false). rw l (omega arith))
@@ -69,21 +69,21 @@ module _ {F : Type 0} (no_path : F) (can : F → ℕ) (r : Restarts F) (falls : 
       (λ (m : made < limit). omega (arith, climbing_falls can n.size (figure_at no_path old) (figure_at no_path new) le))
       (λ (m : limit ≤ made).
       let marked : can (figure_at no_path new s.0) < can (figure_at no_path old s.0) =
-      rw (p.next s.0 s.1, s.2, s.3, le-ltb made limit m) (falls.ends (figure_at no_path old s.0) (figure_at no_path column s.0) s.3) in
-      omega (arith, climbing_less can n.size (figure_at no_path old) (figure_at no_path new) le s.0 s.1 marked))
+      rw (p.next s.0 s.1 s.2, s.3, s.4, le-ltb made limit m) (falls.ends (figure_at no_path old s.0) (figure_at no_path column s.0) s.4) in
+      omega (arith, climbing_less can n.size (figure_at no_path old) (figure_at no_path new) le s.0 s.2 marked))
       (cases_lt made limit)
 
 module _ {F S : Type 0} (kind : Kind F S) (n : Network) (course : Course F S) (r : Restarts F) (limit : ℕ) (first : ℕ → F) where
   -- the starts after one more sweep
   pub once_more : (made : ℕ) (column old new : List F) (climbs : Bool) → climbs ≡ true → Sound n → Restarted kind n course r limit first made (figure_at kind.no_path old) →
-      Swept kind n course (figure_at kind.no_path old) (figure_at kind.no_path column) → PassedOn kind.no_path r n made limit column old new climbs →
+      Swept kind n course (figure_at kind.no_path old) (figure_at kind.no_path column) → PassedOn kind.no_path r n made limit 0 n.size column old new climbs →
       Restarted kind n course r limit first (made + 1) (figure_at kind.no_path new)
   once_more made column old new climbs c sound before swept p =
       let e : made + 1 ≡ suc made = omega arith in
       let some = p.some c in
       rw e
-      (after_sweep (figure_at kind.no_path column) (figure_at kind.no_path new) before swept some.0 some.2 some.3
-      (λ v l. let lt = sound.origins v (sound.latches v l) in p.next v lt ∙ rw l refl))
+      (after_sweep (figure_at kind.no_path column) (figure_at kind.no_path new) before swept some.0 some.3 some.4
+      (λ v l. let lt = sound.origins v (sound.latches v l) in p.next v (omega arith) lt ∙ rw l refl))
 
   -- the starts before the first sweep
   pub before_sweeps : (old new : List F) → Sound n → Started kind.no_path first n.size old new → Restarted kind n course r limit first 0 (figure_at kind.no_path new)
@@ -91,12 +91,12 @@ module _ {F S : Type 0} (kind : Kind F S) (n : Network) (course : Course F S) (r
 
   -- a sweep after which no latch climbs is the last
   pub at_rest : (made : ℕ) (column old new : List F) (climbs : Bool) → climbs ≡ false → Sound n → Restarted kind n course r limit first made (figure_at kind.no_path old) →
-      Swept kind n course (figure_at kind.no_path old) (figure_at kind.no_path column) → PassedOn kind.no_path r n made limit column old new climbs →
+      Swept kind n course (figure_at kind.no_path old) (figure_at kind.no_path column) → PassedOn kind.no_path r n made limit 0 n.size column old new climbs →
       Settled kind n course r limit first made (figure_at kind.no_path new) (figure_at kind.no_path column)
   at_rest made column old new climbs e sound before swept p =
       rw (p.kept e)
       (record {
         restarted = before;
         swept = swept;
-        still = λ v l. p.none e v (sound.origins v (sound.latches v l)) l;
+        still = λ v l. p.none e v (omega arith) (sound.origins v (sound.latches v l)) l;
       })

@@ -10,7 +10,7 @@ use Rattle.windows.specs.Edges.{is_late, is_early, late_excess, early_excess}
 abbrev pub late_at : Circuit → (ℕ → Arrival) → ℕ → Bool
 late_at c column v = is_late c.schedule.now (row c.nodes.now v) (column v)
 
--- by how much
+-- how far the latest arrival at a latch is after its late bound
 abbrev pub late_excess_at : Circuit → (ℕ → Arrival) → ℕ → ℤ
 late_excess_at c column v = late_excess c.schedule.now (row c.nodes.now v) (column v)
 
@@ -18,7 +18,7 @@ late_excess_at c column v = late_excess c.schedule.now (row c.nodes.now v) (colu
 abbrev pub early_at : Circuit → (ℕ → Arrival) → ℕ → Bool
 early_at c column v = is_early (row c.nodes.now v) (column v)
 
--- by how much
+-- how far the earliest arrival at a latch is before its early bound
 abbrev pub early_excess_at : Circuit → (ℕ → Arrival) → ℕ → ℤ
 early_excess_at c column v = early_excess (row c.nodes.now v) (column v)
 

@@ -5,6 +5,7 @@ use Rattle.refusals.specs.declared.Refusal.TheVariants.{Short}
 use Rattle.design.specs.Table.{Table, Lent, Loan, lent_in}
 use Rattle.design.specs.Tests.{is_short}
 use Rattle.kinds.specs.declared.timings.Delays.{Delays}
+use Rattle.windows.specs.declared.blocks.Leads.{Leads}
 use Rattle.windows.specs.declared.circuit.Circuit.{Circuit}
 use Rattle.windows.specs.declared.rows.Rows.{Rows}
 
@@ -25,6 +26,6 @@ RowsOf view loan flags places (Ok rows) =
     × (length rows.couplings.now ≤ flags)
 RowsOf view loan flags places (Err why) = (lacks_rows (lent_in loan) (view loan) flags places ≡ true) × (why ≡ Short)
 
--- the circuit of rows with these delays
-abbrev pub IsCircuit : Rows → List Delays → Circuit → Type 0
-IsCircuit rows delays c = (c.schedule.now ≡ rows.schedule.now) × (c.nodes.now ≡ rows.nodes.now) × (c.delays.now ≡ delays)
+-- the circuit of rows with these delays and leads
+abbrev pub IsCircuit : Rows → List Delays → Leads → Circuit → Type 0
+IsCircuit rows delays leads c = (c.schedule.now ≡ rows.schedule.now) × (c.nodes.now ≡ rows.nodes.now) × (c.delays.now ≡ delays) × (c.leads.now ≡ leads)

@@ -3,6 +3,7 @@ pub mod Edges
 pub mod Delays
 pub mod Effective
 pub mod Seen
+pub mod Blocks
 pub mod Rings
 pub mod Found
 pub mod Lending

@@ -1,5 +1,5 @@
 -- What latches start from, before the first sweep and between two sweeps.
-use Rattle.std.specs.Prelude.{◌≡◌, ℕ, ◌<◌, Bool, true, false, cond, List, length}
+use Rattle.std.specs.Prelude.{◌≡◌, ℕ, ◌<◌, ◌≤◌, Bool, true, false, cond, ◌⊎◌, List, length}
 use Rattle.kinds.specs.declared.timings.Start.{Start}
 use Rattle.paths.specs.Networks.{Network}
 use Rattle.paths.specs.Kinds.{Restarts}
@@ -17,10 +17,11 @@ pub record Started {F : Type 0} (no_path : F) (opening : ℕ → F) (count : ℕ
   pub long : length new ≡ length old
   pub opens : (v : ℕ) → v < count → figure_at no_path new v ≡ opening v
 
--- Each latch starts from what is next for it after so many sweeps, and every other node as before. Whether any latch climbs is told.
-pub record PassedOn {F : Type 0} (no_path : F) (r : Restarts F) (n : Network) (made limit : ℕ) (column old new : List F) (climbs : Bool) : Type 0 where
+-- Each latch from one number up to another starts from what is next for it after so many sweeps, and every other node as before. Whether any of these latches climbs is told.
+pub record PassedOn {F : Type 0} (no_path : F) (r : Restarts F) (n : Network) (made limit from to : ℕ) (column old new : List F) (climbs : Bool) : Type 0 where
   pub long : length new ≡ length old
-  pub next : (v : ℕ) → v < n.size → figure_at no_path new v ≡ cond (n.is_latch v) (next_start r limit made (figure_at no_path old v) (figure_at no_path column v)) (figure_at no_path old v)
+  pub next : (v : ℕ) → from ≤ v → v < to → figure_at no_path new v ≡ cond (n.is_latch v) (next_start r limit made (figure_at no_path old v) (figure_at no_path column v)) (figure_at no_path old v)
+  pub rest : (v : ℕ) → (v < from) ⊎ (to ≤ v) → figure_at no_path new v ≡ figure_at no_path old v
   pub kept : climbs ≡ false → new ≡ old
-  pub none : climbs ≡ false → (v : ℕ) → v < n.size → n.is_latch v ≡ true → r.climbs (figure_at no_path old v) (figure_at no_path column v) ≡ false
-  pub some : climbs ≡ true → (v : ℕ) × (v < n.size) × (n.is_latch v ≡ true) × (r.climbs (figure_at no_path old v) (figure_at no_path column v) ≡ true)
+  pub none : climbs ≡ false → (v : ℕ) → from ≤ v → v < to → n.is_latch v ≡ true → r.climbs (figure_at no_path old v) (figure_at no_path column v) ≡ false
+  pub some : climbs ≡ true → (v : ℕ) × (from ≤ v) × (v < to) × (n.is_latch v ≡ true) × (r.climbs (figure_at no_path old v) (figure_at no_path column v) ≡ true)

@@ -2,6 +2,7 @@
 ghost use Rattle.states.specs.Views.{loan_of, open_table};
 ghost use Rattle.windows.specs.Answers.{LatestAnswered, EarliestAnswered, WindowsAnswered};
 
+use super::blocks::Leads;
 use super::breaches::{early_latch, late_latch};
 use super::checked::Checked;
 use super::column::Column;
@@ -35,7 +36,8 @@ pub fn latest_arrivals<S: Stage>(
 {
     let rows = rows_of(book, schedule, nodes, couplings, flags.len(), column.len())?;
     let delays = Effective::under(rows.nodes, rows.couplings, flags);
-    let circuit = rows.circuit(&delays);
+    let leads = Leads::of(rows.nodes);
+    let circuit = rows.circuit(&delays, &leads);
     let mut starts = [Arrival::NoPath; MOST_NODES];
     let mut column = Column { figures: column };
     Ok(find_latest(&circuit, &mut starts, &mut column))
@@ -55,7 +57,8 @@ pub fn earliest_arrivals<S: Stage>(
 {
     let rows = rows_of(book, schedule, nodes, couplings, flags.len(), column.len())?;
     let delays = Effective::under(rows.nodes, rows.couplings, flags);
-    let circuit = rows.circuit(&delays);
+    let leads = Leads::of(rows.nodes);
+    let circuit = rows.circuit(&delays, &leads);
     let mut starts = [Arrival::NoPath; MOST_NODES];
     let mut column = Column { figures: column };
     find_earliest(&circuit, &mut starts, &mut column);
@@ -79,7 +82,8 @@ pub fn windows<S: Stage>(
     let places = windows.len().min(column.len());
     let rows = rows_of(book, schedule, nodes, couplings, flags.len(), places)?;
     let delays = Effective::under(rows.nodes, rows.couplings, flags);
-    let circuit = rows.circuit(&delays);
+    let leads = Leads::of(rows.nodes);
+    let circuit = rows.circuit(&delays, &leads);
     let mut starts = [Arrival::NoPath; MOST_NODES];
     let mut latest = Column {
         figures: &mut *column,

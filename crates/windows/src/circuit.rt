@@ -1,19 +1,22 @@
 // What a sweep goes over.
-ghost use Rattle.std.specs.Prelude.{◌≡◌};
+ghost use Rattle.std.specs.Prelude.{◌≡◌, ◌≤◌, length};
 ghost use Rattle.timing.specs.Connections.{row, shift_between, start_at};
+ghost use Rattle.windows.specs.Blocks.{nodes_before};
 ghost use Rattle.windows.specs.Delays.{delays_at};
 
+use super::blocks::{BLOCK, Leads};
 use super::connections::{shift, start_at};
 use design::nodes::Node;
 use kinds::timings::{Delays, Start};
 use schedule::Schedule;
 
-// The rows of the granted nodes, their clock, and the delays that they have in effect.
+// The rows of the granted nodes, their clock, the delays that they have in effect, and which blocks of them lead to which.
 #[derive(Clone, Copy)]
 pub(crate) struct Circuit<'a> {
     pub(crate) schedule: &'a Schedule,
     pub(crate) nodes: &'a [Node],
     pub(crate) delays: &'a [Delays],
+    pub(crate) leads: &'a Leads,
 }
 
 impl<'a> Circuit<'a> {
@@ -49,5 +52,13 @@ impl<'a> Circuit<'a> {
         ensures { result ≡ start_at self.now.schedule.now (row self.now.nodes.now k) }
     {
         start_at(self.schedule, self.row(k))
+    }
+
+    // How many nodes stand in the blocks before one.
+    pub(crate) fn nodes_before(&self, block: usize) -> usize
+        requires { block ≤ 128 }
+        ensures { result ≡ nodes_before (length self.now.nodes.now) block }
+    {
+        self.nodes.len().min(BLOCK * block)
     }
 }

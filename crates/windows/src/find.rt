@@ -6,7 +6,8 @@ ghost use Rattle.timing.specs.Connections.{network};
 ghost use Rattle.timing.specs.Figures.{late_start, late_gain};
 ghost use Rattle.kinds.specs.declared.arrival.Arrival.TheVariants.{NoPath};
 ghost use Rattle.rings.specs.Found.{LatestFound};
-ghost use Rattle.windows.specs.Seen.{figure_at};
+ghost use Rattle.windows.specs.Blocks.{AllLeads};
+ghost use Rattle.windows.specs.Seen.{figure_at, network_of};
 ghost use Rattle.windows.specs.Found.{EndsBy, Shows, MadeSweeps, EarlyFound};
 
 use super::circuit::Circuit;
@@ -24,6 +25,7 @@ pub(crate) fn find_latest(
     column: &mut Column<'_, Latest>,
 ) -> LatestSweeps
     requires few { length circuit.now.nodes.now ≤ 4096 }
+    requires leads { AllLeads (network_of circuit.now) circuit.now.leads.now }
     requires starts_fit { length circuit.now.nodes.now ≤ length starts.old }
     requires column_fits { length circuit.now.nodes.now ≤ length column.old.figures.now }
     ensures found { (t : Table) (S : ℕ → Bool) → Stands t → Shows t S circuit.now → LatestFound (network t.nodes) (late_start t) (late_gain t S) (figure_at NoPath starts.new) (figure_at NoPath column.new.figures.now) }
@@ -48,6 +50,7 @@ pub(crate) fn find_earliest(
     column: &mut Column<'_, Earliest>,
 )
     requires few { length circuit.now.nodes.now ≤ 4096 }
+    requires leads { AllLeads (network_of circuit.now) circuit.now.leads.now }
     requires starts_fit { length circuit.now.nodes.now ≤ length starts.old }
     requires column_fits { length circuit.now.nodes.now ≤ length column.old.figures.now }
     ensures found { (t : Table) (S : ℕ → Bool) → Stands t → Shows t S circuit.now → EarlyFound t S column.new.figures.now }

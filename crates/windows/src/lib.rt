@@ -1,6 +1,7 @@
 // When each node of a design may switch under a set of couplings.
 #![tactic(auto)]
 
+mod blocks;
 mod breaches;
 pub mod calls;
 pub mod checked;

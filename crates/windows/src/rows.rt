@@ -2,6 +2,7 @@
 ghost use Rattle.states.specs.Views.{loan_of, open_table};
 ghost use Rattle.windows.specs.Lending.{RowsOf, IsCircuit};
 
+use super::blocks::Leads;
 use super::circuit::Circuit;
 use super::effective::Effective;
 use design::couplings::Coupling;
@@ -20,14 +21,15 @@ pub struct Rows<'a> {
 }
 
 impl<'a> Rows<'a> {
-    // The circuit of the rows with these delays.
-    pub(crate) fn circuit(&self, delays: &'a Effective) -> Circuit<'a>
-        ensures { IsCircuit self.now delays.now.places result }
+    // The circuit of the rows with these delays and leads.
+    pub(crate) fn circuit(&self, delays: &'a Effective, leads: &'a Leads) -> Circuit<'a>
+        ensures { IsCircuit self.now delays.now.places leads.now result }
     {
         Circuit {
             schedule: self.schedule,
             nodes: self.nodes,
             delays: delays.list(),
+            leads,
         }
     }
 }

@@ -3,7 +3,7 @@ use Rattle.std.proofs.Common.{◌≡◌, ◌<◌, length, pos, ap, ◌∙◌, �
 use Rattle.std.proofs.lemmas.List.{get_or-set_same, get_or-set_other, length-set, drop-set-lt}
 use Rattle.std.proofs.lemmas.Bool.{cases_eq}
 use Rattle.timing.specs.declared.windows.Window.{Window}
-use Rattle.windows.proofs.Passing.{below_next}
+use Rattle.windows.proofs.Blocking.{below_next}
 use Rattle.windows.proofs.write.write_begins.Goals as goal
 
 -- no window

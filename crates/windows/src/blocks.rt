@@ -1,0 +1,108 @@
+// Nodes in blocks, so that a sweep can pass over the blocks in which nothing can have changed.
+ghost use Rattle.std.specs.Prelude.{◌≡◌, ℕ, ◌<◌, ◌||◌, ◌==◌, true, false};
+ghost use Rattle.timing.specs.Connections.{network};
+ghost use Rattle.windows.specs.Blocks.{block_of, has_block, led_from, IsNext, AllLeads};
+
+use super::connections::sources;
+use design::nodes::Node;
+
+// Nodes in a block, and blocks: so many hold as many nodes as a book takes.
+pub(crate) const BLOCK: usize = 32;
+
+pub(crate) const BLOCKS: usize = 128;
+
+// A set of blocks.
+#[derive(Clone, Copy)]
+pub(crate) struct Blocks {
+    members: [bool; 128],
+}
+
+impl Blocks {
+    pub(crate) fn none() -> Blocks
+        ensures { (b : ℕ) → has_block result b ≡ false }
+    {
+        Blocks {
+            members: [false; 128],
+        }
+    }
+
+    pub(crate) fn all() -> Blocks
+        ensures { (b : ℕ) → b < 128 → has_block result b ≡ true }
+    {
+        Blocks {
+            members: [true; 128],
+        }
+    }
+
+    // The first block of the set from this one on.
+    pub(crate) fn next(&self, from: usize) -> Option<usize>
+        ensures { IsNext self.now from result }
+    {
+        for block in from..BLOCKS {
+            if self.members[block] {
+                return Some(block);
+            }
+        }
+        None
+    }
+
+    pub(crate) fn add(&mut self, block: usize)
+        requires { block < 128 }
+        ensures { (b : ℕ) → has_block self.new b ≡ ((b == block) || has_block self.old b) }
+    {
+        self.members[block] = true;
+    }
+
+    fn join(&mut self, other: &Blocks)
+        ensures { (b : ℕ) → has_block self.new b ≡ (has_block self.old b || has_block other.now b) }
+    {
+        for block in 0..BLOCKS {
+            if other.members[block] {
+                self.members[block] = true;
+            }
+        }
+    }
+}
+
+// Which blocks lead to which: those of the sources of nodes to those of the nodes.
+#[derive(Drop)]
+pub(crate) struct Leads {
+    to: [Blocks; 128],
+}
+
+impl Leads {
+    // The block of one node leads to that of another.
+    fn add(&mut self, from: usize, to: usize)
+        ensures marked { from < 4096 → to < 4096 → has_block (led_from self.new (block_of from)) (block_of to) ≡ true }
+        ensures kept { (a b : ℕ) → has_block (led_from self.old a) b ≡ true → has_block (led_from self.new a) b ≡ true }
+    {
+        let source = from / BLOCK;
+        let target = to / BLOCK;
+        if source < BLOCKS && target < BLOCKS {
+            self.to[source].add(target);
+        }
+    }
+
+    // Of all connections between these nodes.
+    pub(crate) fn of(nodes: &[Node]) -> Leads
+        ensures { AllLeads (network nodes.now) result }
+    {
+        let mut leads = Leads {
+            to: [Blocks::none(); 128],
+        };
+        for (v, node) in nodes.iter().enumerate() {
+            for source in sources(node) {
+                leads.add(usize::from(*source), v);
+            }
+        }
+        leads
+    }
+
+    // Adds the blocks that a block leads to.
+    pub(crate) fn wake(&self, block: usize, stale: &mut Blocks)
+        requires { block < 128 }
+        ensures { (b : ℕ) → has_block stale.new b ≡ (has_block stale.old b || has_block (led_from self.now block) b) }
+    {
+        stale.join(&self.to[block]);
+    }
+}
