@@ -1,5 +1,5 @@
 -- Sweeps of the earliest kind settle on the least figures of the short paths that arrive at each node: no latch starts from anything but its opening edge, so one sweep says it all.
-use Rattle.std.proofs.Common.{◌≡◌, ℕ, ◌<◌, ◌≤◌, true, false, not, ◌||◌, ℤ, refl, sym, ◌∙◌, ⊎_elim, arith}
+use Rattle.std.proofs.Common.{◌≡◌, ℕ, ◌<◌, ◌≤◌, true, false, not, ◌||◌, ℤ, ◌≤ℤ◌, refl, sym, ◌∙◌, ⊎_elim, arith}
 use Rattle.std.proofs.lemmas.Int.{ints}
 use Rattle.std.proofs.lemmas.Bool.{cases_Bool, and_parts, and_from, not-true, not_from_false, or_left, or_right, true≢false}
 use Rattle.paths.specs.Networks.{Network, Path, start, step, Sound, has_step, latches_entered, enters_none, is_short}
@@ -10,9 +10,9 @@ use Rattle.kinds.specs.declared.arrival.Arrival.TheVariants.{NoPath, At, NoEnd a
 use Rattle.kinds.specs.Arrivals.{earliest_kind}
 use Rattle.rings.specs.Settling.{Restarted, unswept, after_sweep}
 use Rattle.kinds.specs.Arrivals.{earliest_restarts}
-use Rattle.rings.specs.Found.{IsEarliest, EarliestSettles}
+use Rattle.rings.specs.Found.{IsEarliest, Small, EarliestSettles}
 use Rattle.rings.proofs.Reach.{earlier, Reaches, front_entered, Backed, Covered, OneSweep}
-use Rattle.rings.proofs.OneSweep.{one_sweep}
+use Rattle.rings.proofs.OneSweep.{same_figure, one_sweep}
 
 -- ---- paths that enter no latch
 
@@ -64,12 +64,13 @@ starts_first n course first limit made starts (unswept h) v l = h v l
 starts_first n course first limit made starts (after_sweep {made = made'} {starts = starts'} column next before swept w latch climbs h) v l =
     h v l ∙ starts_first n course first limit made' starts' before v l
 
-module _ (n : Network) (first : ℕ → ℤ) (gain : ℕ → ℕ → ℤ) (starts : ℕ → Arrival) (sound : Sound n) (at_first : (v : ℕ) → n.is_latch v ≡ true → starts v ≡ At (first v)) where
+module _ (n : Network) (first : ℕ → ℤ) (gain : ℕ → ℕ → ℤ) (starts : ℕ → Arrival) (sound : Sound n) (small_starts : (v : ℕ) → n.is_origin v ≡ true → Small (first v)) (at_first : (v : ℕ) → n.is_latch v ≡ true → starts v ≡ At (first v)) where
   -- that is the figure of the path that starts there
-  backed_first : Backed n (adding first gain) 0 starts
+  backed_first : Backed earlier n (adding first gain) 0 starts
   backed_first v x l e =
-      let z : At (first v) ≡ At x = sym (at_first v l) ∙ e in
-      (start (sound.latches v l), cc, omega arith, omega arith)
+      let z : first v ≡ x = same_figure (first v) x (sym (at_first v l) ∙ e) in
+      let small : Small (first v) = small_starts v (sound.latches v l) in
+      (start (sound.latches v l), omega (arith, ints, z), omega arith, (omega (arith, ints, z, small.0), omega (arith, ints, z, small.1)))
 
   -- and no other path enters no latch
   covered_first : Covered earlier n (adding first gain) 0 starts
@@ -88,7 +89,9 @@ module _ (n : Network) (first : ℕ → ℤ) (gain : ℕ → ℕ → ℤ) (start
   found v lt NoPath e = λ p q. rw e at (reached v p q)
   found v lt (At f) e =
       let b = one.backed v f lt e in
-      record { path = b.0; picked = it_comes b.0 b.2 b.3; reached = b.1; least = λ p q. rw e at (reached v p q) }
+      let comes : arrives_short b.0 ≡ true = it_comes b.0 b.2 b.3 in
+      let below : f ≤ℤ figure (adding first gain) b.0 = rw e at (reached v b.0 comes) in
+      record { path = b.0; picked = comes; reached = omega (arith, ints, b.1, below); least = λ p q. rw e at (reached v p q) }
   found v lt Endless e =
       let u = one.led v lt e in
       let z : At (first u.0) ≡ Endless = sym (at_first u.0 u.2) ∙ u.3 in
@@ -98,5 +101,5 @@ module _ (n : Network) (first : ℕ → ℤ) (gain : ℕ → ℕ → ℤ) (start
 pub earliest_settles : EarliestSettles
 earliest_settles n course first gain limit made starts column sound says settled v lt =
     let at_first = starts_first n course first limit made starts settled.restarted in
-    let one = one_sweep earlier n course first gain 0 starts column sound says (omega arith) (backed_first n first gain starts sound at_first) (covered_first n first gain starts sound at_first) settled.swept in
+    let one = one_sweep earlier n course first gain 0 starts column sound says (omega arith) (backed_first n first gain starts sound says.small_starts at_first) (covered_first n first gain starts sound says.small_starts at_first) settled.swept in
     found n first gain starts column at_first one v lt (column v) refl

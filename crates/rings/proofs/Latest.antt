@@ -1,20 +1,21 @@
 -- Sweeps of the latest kind settle on the greatest figures: what latches start from has absorbed each path that enters no more latches than sweeps were made, and a latch that climbs still after as many sweeps as there are latches has no end.
-use Rattle.std.proofs.Common.{◌≡◌, ℕ, suc, ◌*◌, ◌<◌, ◌≤◌, Bool, true, false, ◌⊎◌, ℤ, ◌+ℤ◌, ◌≤ℤ◌, refl, sym, ap, ◌∙◌, inl, inr, ⊎_elim, arith}
-use Rattle.std.proofs.lemmas.Int.{ints, clamps}
+use Rattle.std.proofs.Common.{◌≡◌, ℕ, suc, ◌+◌, ◌*◌, ◌<◌, ◌≤◌, Bool, true, false, ◌⊎◌, ℤ, ◌+ℤ◌, ◌≤ℤ◌, ◌<ℤ◌, refl, sym, ap, ◌∙◌, inl, inr, ⊎_elim, arith}
+use Rattle.std.proofs.lemmas.Int.{ints, clamps, by_lt_z}
 use Rattle.std.proofs.lemmas.Bool.{true≢false, cases_Bool, cases_lt, lt-ltb, le-ltb}
 use Rattle.closing.proofs.Counts.{count-most}
 use Rattle.paths.specs.Networks.{Network, Path, start, step, Connected, Sound, has_step, steps, latches_entered, latch_count}
 use Rattle.paths.specs.Figures.{Measure, figure, adding, every, Unbounded}
 use Rattle.paths.specs.Sweeps.{Course, Swept, leaving}
+use Rattle.paths.proofs.Steps.{Within, path_small}
 use Rattle.paths.proofs.Loops.{overtaken}
 use Rattle.kinds.specs.declared.arrival.Arrival.{Arrival}
 use Rattle.kinds.specs.declared.arrival.Arrival.TheVariants.{NoPath, At, NoEnd as Endless}
 use Rattle.kinds.specs.Arrivals.{latest_kind, is_later}
 use Rattle.rings.specs.Settling.{next_start, Restarted, unswept, after_sweep, Settled}
 use Rattle.kinds.specs.Arrivals.{latest_restarts}
-use Rattle.rings.specs.Found.{IsLatest, Says, LatestFound, LatestSettles}
-use Rattle.rings.proofs.Reach.{later, Reaches, front_entered, Backed, Covered, OneSweep}
-use Rattle.rings.proofs.OneSweep.{one_sweep}
+use Rattle.rings.specs.Found.{IsLatest, Says, furthest, Begins, LatestFound, LatestSettles}
+use Rattle.rings.proofs.Reach.{later, Reaches, size_after, larger_size, Backed, Covered, OneSweep}
+use Rattle.rings.proofs.OneSweep.{same_figure, one_sweep}
 
 -- ---- starts, and arrivals that are later
 
@@ -66,10 +67,20 @@ starts_late P limit made s c s' past e more same =
 entered : {n : Network} {k v : ℕ} (p : Path n k) (c : Connected n k v) → n.is_latch v ≡ true → latches_entered (step p c) ≡ suc (latches_entered p)
 entered {n} {v = v} p c t = simp t refl
 
--- a path enters no more latches than before its last step, and one
-front_or_one : {n : Network} {v : ℕ} (p : Path n v) → latches_entered p ≤ suc (front_entered p)
-front_or_one (start o) = omega arith
-front_or_one {n} {v} (step p c) = grind arith
+-- a step that enters no latch counts none
+not_entered : {n : Network} {k v : ℕ} (p : Path n k) (c : Connected n k v) → n.is_latch v ≡ false → latches_entered (step p c) ≡ latches_entered p
+not_entered {n} {v = v} p c t = simp t refl
+
+-- between one latch and the next a path passes nodes of ever greater numbers, so it has few steps
+few_steps : (n : Network) → Sound n → n.size ≤ 4096 → {v : ℕ} (p : Path n v) → steps p ≤ latches_entered p * 4097 + v
+few_steps n sound size (start o) = omega arith
+few_steps n sound size (step {k = u} {v = v} p c) =
+    let before : steps p ≤ latches_entered p * 4097 + u = few_steps n sound size p in
+    let below : u < n.size = (sound.sources u v c).0 in
+    ⊎_elim
+    (λ (l : n.is_latch v ≡ true). omega (arith, before, below, size, entered p c l))
+    (λ (l : n.is_latch v ≡ false). omega (arith, before, sound.order u v c l, not_entered p c l))
+    (cases_Bool (n.is_latch v))
 
 -- figures that grow past every number on some paths do so on all
 unbounded_every : {n : Network} {v : ℕ} (m : Measure ℤ) (picks : Path n v → Bool) → Unbounded {n = n} {v = v} m picks → Unbounded {n = n} {v = v} m every
@@ -77,23 +88,24 @@ unbounded_every m picks h bound =
     let r = h bound in
     (r.0, refl, r.2)
 
--- An arrival is the latest of some paths if it has absorbed each of them, is the figure of one where it is a figure, and has no end only where they have none.
-is_latest : {n : Network} {v : ℕ} (m : Measure ℤ) (picks : Path n v → Bool) (a : Arrival) → ((p : Path n v) → picks p ≡ true → Reaches later (figure m p) a) → ((x : ℤ) → a ≡ At x → (p : Path n v) × (picks p ≡ true) × (figure m p ≡ x)) → (a ≡ Endless → Unbounded {n = n} {v = v} m picks) → IsLatest {n = n} {v = v} m picks a
+-- An arrival is the latest of some paths if it has absorbed each of them, is no more than the figure of one where it is a figure, and has no end only where they have none.
+is_latest : {n : Network} {v : ℕ} (m : Measure ℤ) (picks : Path n v → Bool) (a : Arrival) → ((p : Path n v) → picks p ≡ true → Reaches later (figure m p) a) → ((x : ℤ) → a ≡ At x → (p : Path n v) × (picks p ≡ true) × (x ≤ℤ figure m p)) → (a ≡ Endless → Unbounded {n = n} {v = v} m picks) → IsLatest {n = n} {v = v} m picks a
 is_latest m picks NoPath most back more = most
 is_latest m picks (At x) most back more =
     let r = back x refl in
-    record { path = r.0; picked = r.1; reached = r.2; most = most }
+    let under : figure m r.0 ≤ℤ x = most r.0 r.1 in
+    record { path = r.0; picked = r.1; reached = omega (arith, ints, r.2, under); most = most }
 is_latest m picks Endless most back more = more refl
 
 -- ---- between sweeps
 
--- What is known of the starts after so many sweeps. They are figures of paths that enter no more latches than a bound, and have absorbed all of these: the bound is how many sweeps were made, and at most how many latches there are. A latch that starts without an end has paths without an end.
+-- What is known of the starts after so many sweeps. Each with an end is no more than the figure of some path, and they have absorbed each path that enters no more latches than a bound: the bound is how many sweeps were made, and at most how many latches there are. A latch that starts without an end has paths without an end.
 record Between (n : Network) (m : Measure ℤ) (made : ℕ) (starts : ℕ → Arrival) : Type 0 where
   bound : ℕ
   few : bound ≤ latch_count n
   early : made ≤ latch_count n → bound ≡ made
   late : latch_count n ≤ made → bound ≡ latch_count n
-  backed : Backed n m bound starts
+  backed : Backed later n m bound starts
   covered : Covered later n m bound starts
   endless : (v : ℕ) → n.is_latch v ≡ true → starts v ≡ Endless → Unbounded {n = n} {v = v} m every
 
@@ -111,17 +123,26 @@ module _ (n : Network) (first : ℕ → ℤ) (gain : ℕ → ℕ → ℤ) (sound
   covers_first v l (start o) h = omega (arith, ints)
   covers_first v l (step p c) h = absurd (omega (arith, h, entered p c l))
 
-  -- before the first sweep each latch starts from the path that starts there
-  between_first : (starts : ℕ → Arrival) → ((v : ℕ) → n.is_latch v ≡ true → starts v ≡ At (first v)) → Between n sums 0 starts
-  between_first starts e =
+  -- before the first sweep each latch starts from what it begins from
+  between_first : (begun starts : ℕ → Arrival) → Begins n first gain begun → ((v : ℕ) → n.is_origin v ≡ true → Within 4294967296 (first v)) → ((v : ℕ) → n.is_latch v ≡ true → starts v ≡ begun v) → Between n sums 0 starts
+  between_first begun starts begins small e =
       record {
         bound = 0;
         few = omega arith;
         early = λ l. refl;
         late = λ l. omega arith;
-        backed = λ v x l s. let q : At (first v) ≡ At x = sym (e v l) ∙ s in (start (sound.latches v l), cc, omega arith, omega arith);
-        covered = λ v l p h. rw (e v l) (covers_first v l p h);
-        endless = λ v l s. let q : At (first v) ≡ Endless = sym (e v l) ∙ s in absurd cc;
+        backed = λ v x l s.
+            let b = begins.at v l in
+            let is : b.0 ≡ x = same_figure b.0 x (sym (e v l ∙ b.1) ∙ s) in
+            let least : Within 4294967296 (first v) = small v (sound.latches v l) in
+            (b.4, rw is at b.5, tt, (omega (arith, ints, is, b.2, least.0), omega (arith, ints, is, b.3)));
+        covered = λ v l p h.
+            let b = begins.at v l in
+            let under : figure sums p ≤ℤ first v = covers_first v l p h in
+            rw (e v l, b.1) (omega (arith, ints, under, b.2));
+        endless = λ v l s.
+            let b = begins.at v l in
+            let q : At b.0 ≡ Endless = sym (e v l ∙ b.1) ∙ s in absurd cc;
       }
 
   module _ {made : ℕ} {starts : ℕ → Arrival} (column : ℕ → Arrival) (b : Between n sums made starts) (one : OneSweep later n first gain b.bound starts column) where
@@ -131,11 +152,11 @@ module _ (n : Network) (first : ℕ → ℤ) (gain : ℕ → ℕ → ℤ) (sound
         let r = one.led v lt e in
         r.4 (b.endless r.0 r.2 r.3)
 
-    -- what comes to a latch is the figure of a path that enters one latch more
-    comes_backed : (v : ℕ) (x : ℤ) → n.is_latch v ≡ true → column v ≡ At x → (p : Path n v) × (figure sums p ≡ x) × (latches_entered p ≤ suc b.bound) × (steps p ≤ suc b.bound * 4097)
+    -- what comes to a latch is not past the figure of some path, and larger by one sweep at most
+    comes_backed : (v : ℕ) (x : ℤ) → n.is_latch v ≡ true → column v ≡ At x → (p : Path n v) × (x ≤ℤ figure sums p) × (Unit {0}) × (Within (size_after (suc b.bound * 4097)) x)
     comes_backed v x l e =
         let r = one.backed v x (latch_below v l) e in
-        (r.0, r.1, omega (arith, front_or_one r.0, r.2), omega (arith, r.4))
+        (r.0, r.1, tt, larger_size (b.bound * 4097 + 4097) (suc b.bound * 4097) x (omega arith) r.4)
 
     -- a path to a latch that enters one latch more was absorbed by what the latch started from, or by what came to it
     comes_covers : (v : ℕ) → n.is_latch v ≡ true → (p : Path n v) → latches_entered p ≤ suc b.bound → Reaches later (figure sums p) (starts v) ⊎ Reaches later (figure sums p) (column v)
@@ -164,12 +185,12 @@ module _ (n : Network) (first : ℕ → ℤ) (gain : ℕ → ℕ → ℤ) (sound
             early = λ h. omega arith;
             late = λ h. omega arith;
             backed = λ v x l.
-                starts_early (λ a. a ≡ At x → (p : Path n v) × (figure sums p ≡ x) × (latches_entered p ≤ suc b.bound) × (steps p ≤ suc b.bound * 4097))
+                starts_early (λ a. a ≡ At x → (p : Path n v) × (x ≤ℤ figure sums p) × (Unit {0}) × (Within (size_after (suc b.bound * 4097)) x))
                 (latch_count n) made (starts v) (column v) (starts' v) less (next v l)
                 (λ h e. comes_backed v x l e)
                 (λ h e.
                 let r = b.backed v x l e in
-                (r.0, r.1, omega (arith, r.2), omega (arith, r.3)));
+                (r.0, r.1, tt, larger_size (b.bound * 4097) (suc b.bound * 4097) x (omega arith) r.3));
             covered = λ v l p h.
                 let f = figure sums p in
                 starts_early (Reaches later f)
@@ -192,7 +213,7 @@ module _ (n : Network) (first : ℕ → ℤ) (gain : ℕ → ℕ → ℤ) (sound
             early = λ h. absurd (omega arith);
             late = λ h. b.late past;
             backed = λ v x l.
-                starts_late (λ a. a ≡ At x → (p : Path n v) × (figure sums p ≡ x) × (latches_entered p ≤ b.bound) × (steps p ≤ b.bound * 4097))
+                starts_late (λ a. a ≡ At x → (p : Path n v) × (x ≤ℤ figure sums p) × (Unit {0}) × (Within (size_after (b.bound * 4097)) x))
                 (latch_count n) made (starts v) (column v) (starts' v) past (next v l)
                 (λ h e. absurd cc)
                 (λ h e. b.backed v x l e);
@@ -269,21 +290,35 @@ module _ (n : Network) (first : ℕ → ℤ) (gain : ℕ → ℕ → ℤ) (sound
           (r.0, r.1, r.2, r.3))
           (cases_Bool (n.is_latch v))
 
-      -- sweeps that settle have found the latest of all paths
-      found : LatestFound n first gain starts column
-      found = record { nodes = node_found; arrivals = arrival_found; led = led_found }
+      -- what a latch starts from is no more than a number that the paths to it which enter few latches keep to
+      near_found : (v : ℕ) (bound : ℤ) → n.is_latch v ≡ true → ((p : Path n v) → latches_entered p ≤ latch_count n → figure sums p ≤ℤ bound) → (x : ℤ) → starts v ≡ At x → x ≤ℤ bound
+      near_found v bound l under x e =
+          let r = b.backed v x l e in
+          by_lt_z bound x
+          (λ (past : bound <ℤ x).
+          let more = overtaken n first gain sound v bound under r.0 (omega (arith, ints, past, r.1)) x in
+          let reached : figure sums more.0 ≤ℤ x = rw (l, e) at (all_leave more.0) in
+          absurd (omega (arith, ints, more.2, reached)))
+          (λ h. h)
 
 module _ (n : Network) (course : Course Arrival ℤ) (first : ℕ → ℤ) (gain : ℕ → ℕ → ℤ) (sound : Sound n) (says : Says n course first gain) where
+  -- no path that enters few latches has a figure past the furthest
+  few_near : {v : ℕ} (p : Path n v) → v < n.size → latches_entered p ≤ latch_count n → figure (adding first gain) p ≤ℤ furthest
+  few_near {v} p lt less =
+      let small : Within (suc (steps p) * 4294967296) (figure (adding first gain) p) = path_small n first gain 4294967296 says.small_starts says.small_gains p in
+      let count : steps p ≤ 16785407 = omega (arith, few_steps n sound says.few p, less, count-most n.size n.is_latch, says.few, lt) in
+      omega (arith, ints, small.1, count)
+
   -- what one sweep makes of such starts
   sweeps : {made : ℕ} {starts : ℕ → Arrival} (column : ℕ → Arrival) → (b : Between n (adding first gain) made starts) → Swept latest_kind n course starts column → OneSweep later n first gain b.bound starts column
   sweeps {made} {starts} column b swept =
       one_sweep later n course first gain b.bound starts column sound says (omega (arith, b.few, count-most n.size n.is_latch, says.few)) b.backed b.covered swept
 
   -- that is known of the starts after any number of sweeps
-  between : {made : ℕ} {starts : ℕ → Arrival} → Restarted latest_kind n course latest_restarts (latch_count n) (λ v. At (first v)) made starts → Between n (adding first gain) made starts
-  between (unswept {starts} e) = between_first n first gain sound starts e
-  between (after_sweep {made} {starts} column starts' before swept w latch climbs next) =
-      let b = between before in
+  between : (begun : ℕ → Arrival) → Begins n first gain begun → {made : ℕ} {starts : ℕ → Arrival} → Restarted latest_kind n course latest_restarts (latch_count n) begun made starts → Between n (adding first gain) made starts
+  between begun begins (unswept {starts} e) = between_first n first gain sound begun starts begins says.small_starts e
+  between begun begins (after_sweep {made} {starts} column starts' before swept w latch climbs next) =
+      let b = between begun begins before in
       let one = sweeps column b swept in
       ⊎_elim
       (λ (less : made < latch_count n). between_early n first gain sound column b one starts' next less)
@@ -291,11 +326,17 @@ module _ (n : Network) (course : Course Arrival ℤ) (first : ℕ → ℤ) (gain
       (cases_lt made (latch_count n))
 
   -- sweeps that settle have found the latest of all paths
-  settles : (made : ℕ) (starts column : ℕ → Arrival) → Settled latest_kind n course latest_restarts (latch_count n) (λ v. At (first v)) made starts column → LatestFound n first gain starts column
-  settles made starts column s =
-      let b = between s.restarted in
-      found n first gain sound column b (sweeps column b s.swept) s.still
+  settles : (begun : ℕ → Arrival) → Begins n first gain begun → (made : ℕ) (starts column : ℕ → Arrival) → Settled latest_kind n course latest_restarts (latch_count n) begun made starts column → LatestFound n first gain starts column
+  settles begun begins made starts column s =
+      let b = between begun begins s.restarted in
+      let one = sweeps column b s.swept in
+      record {
+        nodes = node_found n first gain sound column b one s.still;
+        arrivals = arrival_found n first gain sound column b one s.still;
+        led = led_found n first gain sound column b one s.still;
+        near = λ v l. near_found n first gain sound column b one s.still v furthest l (λ p less. few_near p (latch_below n first gain sound v l) less);
+      }
 
 -- sweeps of the latest kind settle on the greatest figures
 pub latest_settles : LatestSettles
-latest_settles n course first gain made starts column sound says s = settles n course first gain sound says made starts column s
+latest_settles n course first gain begun made starts column sound says begins s = settles n course first gain sound says begun begins made starts column s

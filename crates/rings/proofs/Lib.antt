@@ -2,4 +2,5 @@
 pub mod Reach
 pub mod OneSweep
 pub mod Latest
+pub mod Beginning
 pub mod Earliest

@@ -1,19 +1,19 @@
--- What one sweep makes of what latches start from, in whole numbers: no sum leaves 64 bits, each figure is that of a path, each path is absorbed, and what has no end comes from a latch that has none.
+-- What one sweep makes of what latches start from, in whole numbers: no sum leaves 64 bits, no figure is past that of some path, each path is absorbed, and what has no end comes from a latch that has none.
 use Rattle.std.proofs.Common.{◌≡◌, ℕ, zero, suc, ◌+◌, ◌*◌, ◌<◌, ◌≤◌, Bool, true, false, not, ◌&&◌, ◌⊎◌, List, [], ◌∷◌, map, ℤ, ◌+ℤ◌, ◌-ℤ◌, refl, sym, ap, ◌∙◌, inl, inr, ⊎_elim, arith}
 use Rattle.std.proofs.lemmas.Int.{ints, clamps}
 use Rattle.std.proofs.lemmas.Bool.{cases_Bool, cases_cond, and_parts, not-true, true≢false}
 use Rattle.std.specs.Int.{int_max, int_min}
-use Rattle.paths.specs.Networks.{Network, Path, start, step, Connected, IsIn, Sound, has_step, steps, latches_entered}
+use Rattle.paths.specs.Networks.{Network, Path, start, step, Connected, IsIn, Sound, has_step, latches_entered}
 use Rattle.paths.specs.Figures.{figure, adding, every, Unbounded}
 use Rattle.paths.specs.Kinds.{Kind, joined}
 use Rattle.paths.specs.Sweeps.{Course, leaving, own, Swept}
-use Rattle.paths.proofs.Steps.{Within, path_small}
+use Rattle.paths.proofs.Steps.{Within}
 use Rattle.kinds.specs.declared.arrival.Arrival.{Arrival}
 use Rattle.kinds.specs.declared.arrival.Arrival.TheVariants.{NoPath, At, NoEnd as Endless}
 use Rattle.kinds.specs.Laws.{within_64}
 use Rattle.kinds.specs.Arrivals.{sum_within, stepped, joined_by}
 use Rattle.rings.specs.Found.{Says}
-use Rattle.rings.proofs.Reach.{Way, later, earlier, kind_of, NotPast, Reaches, front_entered, Backed, Covered, OneSweep}
+use Rattle.rings.proofs.Reach.{Way, later, earlier, kind_of, NotPast, Reaches, front_entered, MayEnter, size_after, larger_size, Backed, Covered, OneSweep}
 
 -- ---- the two kinds at once
 
@@ -55,6 +55,11 @@ self earlier f = omega (arith, ints)
 both_gain : (way : Way) (f x g : ℤ) → NotPast way f x → NotPast way (f +ℤ g) (x +ℤ g)
 both_gain later f x g h = omega (arith, ints)
 both_gain earlier f x g h = omega (arith, ints)
+
+-- a path that only starts enters none of the latches that it may enter
+may_start : (way : Way) (k : ℕ) → MayEnter way k 0
+may_start later k = tt
+may_start earlier k = omega arith
 
 -- ---- joins
 
@@ -104,7 +109,7 @@ joined_reaches way x f (k ∷ ks) u (inr i) h = join_right way x (f k) (joined (
 -- ---- sums and steps
 
 -- equal figures of arrivals
-same_figure : (x y : ℤ) → At x ≡ At y → x ≡ y
+pub same_figure : (x y : ℤ) → At x ≡ At y → x ≡ y
 same_figure x y e = cc
 
 -- what comes along a connection with a figure left with one
@@ -132,7 +137,7 @@ enters_before (step p c) t = rw t refl
 
 -- ---- one sweep
 
-module _ (way : Way) (n : Network) (course : Course Arrival ℤ) (first : ℕ → ℤ) (gain : ℕ → ℕ → ℤ) (k : ℕ) (starts column : ℕ → Arrival) (sound : Sound n) (says : Says n course first gain) (few : k ≤ 4096) (from : Backed n (adding first gain) k starts) (swept : Swept (plain way) n course starts column) where
+module _ (way : Way) (n : Network) (course : Course Arrival ℤ) (first : ℕ → ℤ) (gain : ℕ → ℕ → ℤ) (k : ℕ) (starts column : ℕ → Arrival) (sound : Sound n) (says : Says n course first gain) (few : k ≤ 4096) (from : Backed way n (adding first gain) k starts) (swept : Swept (plain way) n course starts column) where
   -- the figure with which a node is left
   abbrev leaves : ℕ → Arrival
   leaves u = leaving n starts column u
@@ -172,48 +177,59 @@ module _ (way : Way) (n : Network) (course : Course Arrival ℤ) (first : ℕ �
       (joined_one way (along v) (n.sources v)))
       (rw (← swept v lt) at (joins_one way (own (plain way) n course v) (joined (plain way) (map (along v) (n.sources v)))))
 
-  -- what leaves a node is the figure of a path that enters few latches and has few steps
+  -- what leaves a node is not past the figure of some path, and not large
   abbrev LeftBy : ℕ → ℤ → Type 0
-  LeftBy u y = (p : Path n u) × (figure (adding first gain) p ≡ y) × (latches_entered p ≤ k) × (steps p ≤ k * 4097 + u)
+  LeftBy u y = (p : Path n u) × (NotPast way y (figure (adding first gain) p)) × (MayEnter way k (latches_entered p)) × (Within (size_after (k * 4097 + u)) y)
 
   -- then the sum along a connection is exact
   exact : (u v : ℕ) (y : ℤ) → Connected n u v → LeftBy u y → sum_within y (course.step u v) ≡ y +ℤ gain u v
   exact u v y c r =
       let lt : u < n.size = (sound.sources u v c).0 in
       let size : n.size ≤ 4096 = says.few in
-      let small : Within (suc (steps r.0) * 4294967296) (figure (adding first gain) r.0) = path_small n first gain 4294967296 says.small_starts says.small_gains r.0 in
+      let small : Within (size_after (k * 4097 + u)) y = r.3 in
       let more : Within 4294967296 (gain u v) = says.small_gains u v c in
-      let count : steps r.0 ≤ 16785408 = omega (arith, r.3, few, lt, size) in
-      let is : figure (adding first gain) r.0 ≡ y = r.1 in
+      let count : k * 4097 + u ≤ 16785408 = omega (arith, few, lt, size) in
       rw (says.steps u v c)
-      (within_64 (y +ℤ gain u v) (omega (arith, ints, is, small.0, more.0, count)) (omega (arith, ints, is, small.1, more.1, count)))
+      (within_64 (y +ℤ gain u v) (omega (arith, ints, small.0, more.0, count)) (omega (arith, ints, small.1, more.1, count)))
 
-  -- the figure at a node is that of a path, where what leaves its sources is, each of them below a number
-  backed_on : (v t : ℕ) (x : ℤ) → v < n.size → column v ≡ At x → ((u : ℕ) → Connected n u v → u < t) → ((u : ℕ) (y : ℤ) → Connected n u v → leaves u ≡ At y → LeftBy u y) → (p : Path n v) × (figure (adding first gain) p ≡ x) × (front_entered p ≤ k) × (n.is_latch v ≡ true → has_step p ≡ true) × (steps p ≤ k * 4097 + t)
+  -- and one step larger at most
+  larger : (u v t : ℕ) (y : ℤ) → Connected n u v → u < t → Within (size_after (k * 4097 + u)) y → Within (size_after (k * 4097 + t)) (y +ℤ gain u v)
+  larger u v t y c below small =
+      let more : Within 4294967296 (gain u v) = says.small_gains u v c in
+      (omega (arith, ints, small.0, more.0, below), omega (arith, ints, small.1, more.1, below))
+
+  -- what an input starts with is not large
+  small_first : (v t : ℕ) → n.is_origin v ≡ true → Within (size_after (k * 4097 + t)) (first v)
+  small_first v t o =
+      let small : Within 4294967296 (first v) = says.small_starts v o in
+      (omega (arith, ints, small.0), omega (arith, ints, small.1))
+
+  -- the figure at a node is not past that of some path, where what leaves its sources is not, each of them below a number
+  backed_on : (v t : ℕ) (x : ℤ) → v < n.size → column v ≡ At x → ((u : ℕ) → Connected n u v → u < t) → ((u : ℕ) (y : ℤ) → Connected n u v → leaves u ≡ At y → LeftBy u y) → (p : Path n v) × (NotPast way x (figure (adding first gain) p)) × (MayEnter way k (front_entered p)) × (n.is_latch v ≡ true → has_step p ≡ true) × (Within (size_after (k * 4097 + t)) x)
   backed_on v t x lt e below left =
       ⊎_elim
       (λ (h : column v ≡ NoPath). absurd cc)
       (λ (h : ((n.is_origin v ≡ true) × (n.is_latch v ≡ false) × (column v ≡ At (first v))) ⊎ ((u : ℕ) × (Connected n u v) × (column v ≡ along v u))).
       ⊎_elim
       (λ (o : (n.is_origin v ≡ true) × (n.is_latch v ≡ false) × (column v ≡ At (first v))).
-      (start o.0, same_figure (first v) x (sym o.2 ∙ e), omega arith, (λ l. absurd (true≢false (sym l ∙ o.1))), omega arith))
+      let is : first v ≡ x = same_figure (first v) x (sym o.2 ∙ e) in
+      (start o.0, rw (← is) (self way (first v)), may_start way k, (λ l. absurd (true≢false (sym l ∙ o.1))), rw is at (small_first v t o.0)))
       (λ (o : (u : ℕ) × (Connected n u v) × (column v ≡ along v u)).
       let a = stepped_at (leaves o.0) (course.step o.0 v) x (sym o.2 ∙ e) in
       let r : LeftBy o.0 a.0 = left o.0 a.0 o.1 a.1 in
-      let sum : sum_within a.0 (course.step o.0 v) ≡ a.0 +ℤ gain o.0 v = exact o.0 v a.0 o.1 r in
-      let lt' : o.0 < t = below o.0 o.1 in
-      (step r.0 o.1, ap (λ f. f +ℤ gain o.0 v) r.1 ∙ sym sum ∙ a.2, r.2, (λ l. refl), omega (arith, r.3, lt')))
+      let is : a.0 +ℤ gain o.0 v ≡ x = sym (exact o.0 v a.0 o.1 r) ∙ a.2 in
+      (step r.0 o.1, rw is at (both_gain way a.0 (figure (adding first gain) r.0) (gain o.0 v) r.1), r.2, (λ l. refl), rw is at (larger o.0 v t a.0 o.1 (below o.0 o.1) r.3)))
       h)
       (made_of v lt)
 
-  -- what leaves a node is the figure of a path, by the numbers of the nodes
+  -- what leaves a node is not past the figure of some path, by the numbers of the nodes
   left_by : (b v : ℕ) (x : ℤ) → v < b → v < n.size → leaves v ≡ At x → LeftBy v x
   left_by zero v x h lt e = absurd (omega arith)
   left_by (suc b) v x h lt e =
       ⊎_elim
       (λ (l : n.is_latch v ≡ true).
       let r = from v x l (rw l at e) in
-      (r.0, r.1, r.2, omega (arith, r.3)))
+      (r.0, r.1, r.2, larger_size (k * 4097) (k * 4097 + v) x (omega arith) r.3))
       (λ (l : n.is_latch v ≡ false).
       let r = backed_on v v x lt (rw l at e) (λ u c. sound.order u v c l) (λ u y c q. let less : u < v = sound.order u v c l in left_by b u y (omega arith) (sound.sources u v c).0 q) in
       (r.0, r.1, rw (enters_before r.0 l) r.2, r.4))
@@ -225,12 +241,12 @@ module _ (way : Way) (n : Network) (course : Course Arrival ℤ) (first : ℕ �
       let lt = (sound.sources u v c).0 in
       left_by n.size u y lt lt e
 
-  -- the figure at a node is that of a path
-  backed_all : (v : ℕ) (x : ℤ) → v < n.size → column v ≡ At x → (p : Path n v) × (figure (adding first gain) p ≡ x) × (front_entered p ≤ k) × (n.is_latch v ≡ true → has_step p ≡ true) × (steps p ≤ k * 4097 + 4097)
+  -- the figure at a node is not past that of some path
+  backed_all : (v : ℕ) (x : ℤ) → v < n.size → column v ≡ At x → (p : Path n v) × (NotPast way x (figure (adding first gain) p)) × (MayEnter way k (front_entered p)) × (n.is_latch v ≡ true → has_step p ≡ true) × (Within (size_after (k * 4097 + 4097)) x)
   backed_all v x lt e =
       let r = backed_on v n.size x lt e (λ u c. (sound.sources u v c).0) (λ u y c q. left u v y c q) in
       let size : n.size ≤ 4096 = says.few in
-      (r.0, r.1, r.2, r.3, omega (arith, r.4, size))
+      (r.0, r.1, r.2, r.3, larger_size (k * 4097 + n.size) (k * 4097 + 4097) x (omega (arith, size)) r.4)
 
   -- what reaches a node that is left goes on along each connection
   passes_on : (u v : ℕ) → Connected n u v → (f : ℤ) → Reaches way f (leaves u) → Reaches way (f +ℤ gain u v) (column v)
@@ -302,7 +318,7 @@ module _ (way : Way) (n : Network) (course : Course Arrival ℤ) (first : ℕ �
   led_all v lt e = led_on v lt e (λ u c q. let l = (sound.sources u v c).0 in led_by n.size u l l q)
 
 -- What one sweep makes of starts that are backed by paths and cover them.
-pub one_sweep : (way : Way) (n : Network) (course : Course Arrival ℤ) (first : ℕ → ℤ) (gain : ℕ → ℕ → ℤ) (k : ℕ) (starts column : ℕ → Arrival) → Sound n → Says n course first gain → k ≤ 4096 → Backed n (adding first gain) k starts → Covered way n (adding first gain) k starts → Swept (kind_of way) n course starts column → OneSweep way n first gain k starts column
+pub one_sweep : (way : Way) (n : Network) (course : Course Arrival ℤ) (first : ℕ → ℤ) (gain : ℕ → ℕ → ℤ) (k : ℕ) (starts column : ℕ → Arrival) → Sound n → Says n course first gain → k ≤ 4096 → Backed way n (adding first gain) k starts → Covered way n (adding first gain) k starts → Swept (kind_of way) n course starts column → OneSweep way n first gain k starts column
 one_sweep way n course first gain k starts column sound says few from cover swept =
     let plainly : Swept (plain way) n course starts column = rw (by_pick way) at swept in
     record {

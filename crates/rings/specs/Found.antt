@@ -1,7 +1,7 @@
 -- What settled sweeps of the latest and of the earliest kind have found of the paths in a network.
 use Rattle.std.specs.Prelude.{◌≡◌, ℕ, ◌<◌, ◌≤◌, Bool, true, false, ℤ, pos, neg_ℤ, ◌≤ℤ◌}
 use Rattle.paths.specs.Networks.{Network, Path, Connected, Sound, has_step, latch_count}
-use Rattle.paths.specs.Figures.{Measure, adding, Greatest, Least, every, Unbounded}
+use Rattle.paths.specs.Figures.{Measure, figure, adding, Greatest, Least, every, Unbounded}
 use Rattle.paths.specs.Sweeps.{Course, leaving, arrives_short}
 use Rattle.kinds.specs.declared.arrival.Arrival.{Arrival}
 use Rattle.kinds.specs.declared.arrival.Arrival.TheVariants.{NoPath, At, NoEnd}
@@ -36,18 +36,27 @@ pub record Says (n : Network) (course : Course Arrival ℤ) (first : ℕ → ℤ
   pub small_starts : (v : ℕ) → n.is_origin v ≡ true → Small (first v)
   pub small_gains : (k v : ℕ) → Connected n k v → Small (gain k v)
 
--- what settled sweeps of the latest kind have found: at each node its paths, at each latch those of one step or more too, and no node without an end but where a latch has none
+-- 2 ^ 57. A path that enters no more latches than there are follows fewer than 4096 * 4098 connections, so it has no greater figure, nor has what sweeps find with an end.
+abbrev pub furthest : ℤ
+furthest = pos 144115188075855872
+
+-- What latches may begin from before the first sweep: no less than the path that only starts there, no more than some path to the latch, and not past the furthest figure.
+pub record Begins (n : Network) (first : ℕ → ℤ) (gain : ℕ → ℕ → ℤ) (begun : ℕ → Arrival) : Type 0 where
+  pub at : (v : ℕ) → n.is_latch v ≡ true → (x : ℤ) × (begun v ≡ At x) × (first v ≤ℤ x) × (x ≤ℤ furthest) × (p : Path n v) × (x ≤ℤ figure (adding first gain) p)
+
+-- what settled sweeps of the latest kind have found: at each node its paths, at each latch those of one step or more too, no node without an end but where a latch has none, and no latch that starts past the furthest figure but without an end
 pub record LatestFound (n : Network) (first : ℕ → ℤ) (gain : ℕ → ℕ → ℤ) (starts column : ℕ → Arrival) : Type 0 where
   pub nodes : (v : ℕ) → v < n.size → IsLatest {n = n} {v = v} (adding first gain) every (leaving n starts column v)
   pub arrivals : (v : ℕ) → v < n.size → n.is_latch v ≡ true → IsLatest {n = n} {v = v} (adding first gain) has_step (column v)
   pub led : (v : ℕ) → v < n.size → leaving n starts column v ≡ NoEnd → (u : ℕ) × (u < n.size) × (n.is_latch u ≡ true) × (starts u ≡ NoEnd)
+  pub near : (v : ℕ) → n.is_latch v ≡ true → (x : ℤ) → starts v ≡ At x → x ≤ℤ furthest
 
--- Sweeps of the latest kind settle on the greatest figures. A latch that climbs in a sweep before which as many were made as there are latches has no end, nor has what it leads to.
+-- Whatever latches may begin from, sweeps of the latest kind settle on the greatest figures. A latch that climbs in a sweep before which as many were made as there are latches has no end, nor has what it leads to.
 abbrev pub LatestSettles : Type 0
 LatestSettles =
-    (n : Network) (course : Course Arrival ℤ) (first : ℕ → ℤ) (gain : ℕ → ℕ → ℤ) (made : ℕ) (starts column : ℕ → Arrival) →
-    Sound n → Says n course first gain →
-    Settled latest_kind n course latest_restarts (latch_count n) (λ v. At (first v)) made starts column →
+    (n : Network) (course : Course Arrival ℤ) (first : ℕ → ℤ) (gain : ℕ → ℕ → ℤ) (begun : ℕ → Arrival) (made : ℕ) (starts column : ℕ → Arrival) →
+    Sound n → Says n course first gain → Begins n first gain begun →
+    Settled latest_kind n course latest_restarts (latch_count n) begun made starts column →
     LatestFound n first gain starts column
 
 -- sweeps of the earliest kind settle on the least figures of the short paths that arrive at each node

@@ -15,6 +15,7 @@ use Rattle.kinds.specs.Arrivals.{latest_kind, latest_start, latest_between, late
 use Rattle.rings.specs.Settling.{next_start, Restarted, unswept, after_sweep, Settled}
 use Rattle.rings.specs.Found.{LatestFound, IsEarliest}
 use Rattle.rings.proofs.Latest.{latest_settles}
+use Rattle.rings.proofs.Beginning.{opening_begins}
 use Rattle.rings.proofs.Earliest.{earliest_settles}
 use Rattle.timing.specs.Connections.{row, network}
 use Rattle.timing.specs.Courses.{course_over}
@@ -176,13 +177,15 @@ module _ (t : Table) (S : Flags) where
   pub columns_found : (test : Columns → Bool) → Stands t → of_columns test ≡ true → (x : Columns) × Found t S x × (test x ≡ true)
   columns_found test stands e =
       let sound = stands_sound t stands in
+      let says = stands_says_latest t S stands in
       let s = settled t S sound (length t.nodes + length t.nodes + 1) 0 first_starts (with_earliest test) (unswept (λ v l. values_at (λ u. At (late_start t u)) (length t.nodes) v NoPath (latch_below t S sound v l))) e in
       let earliest : List Arrival = filled earliest_kind (network t.nodes) (earliest_course t S) (λ v. At (early_start t v)) in
       let x : Columns = record { starts = s.1; latest = s.2; earliest = earliest } in
       let parts = and_parts (is_swept earliest_kind (network t.nodes) (earliest_course t S) (λ v. At (early_start t v)) earliest) (test x) s.4 in (
         x,
         record {
-          latest = latest_settles (network t.nodes) (latest_course t S) (late_start t) (late_gain t S) s.0 (at_node s.1) (at_node s.2) sound (stands_says_latest t S stands) s.3;
+          latest = latest_settles (network t.nodes) (latest_course t S) (late_start t) (late_gain t S) (λ v. At (late_start t v)) s.0 (at_node s.1) (at_node s.2) sound says
+              (opening_begins (network t.nodes) (latest_course t S) (late_start t) (late_gain t S) sound says) s.3;
           earliest = earliest_settles (network t.nodes) (earliest_course t S) (early_start t) (early_gain t S) 0 0 (λ v. At (early_start t v)) (at_node earliest) sound (stands_says_earliest t S stands)
               (record { restarted = unswept (λ v l. refl); swept = swept earliest_kind (network t.nodes) (earliest_course t S) (λ v. At (early_start t v)) earliest parts.0; still = λ v l. refl });
         },
