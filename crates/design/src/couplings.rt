@@ -19,3 +19,6 @@ impl Coupling {
         opposing: 0,
     };
 }
+
+// It couples nothing: both amounts are 0.
+const _: () = prove!(Coupling::NONE.assisting == 0 && Coupling::NONE.opposing == 0);

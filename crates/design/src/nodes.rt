@@ -1,6 +1,7 @@
 // The rows of a node table.
 
-// The nodes that drive a gate: the first `count` places of `nodes`, in the row itself, since only the lent table keeps them.
+// The nodes that drive a gate: the first `count` places of `nodes`, in the row itself, since only the lent table keeps
+// them.
 #[derive(Clone, Copy)]
 pub struct Sources {
     pub count: u8,

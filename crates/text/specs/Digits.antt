@@ -1,5 +1,5 @@
 -- Hexadecimal digits: 0 to 9 and A to F in ASCII, two to a byte, the high one first.
-use Rattle.std.specs.Prelude.{◌≡◌, ℕ, ◌+◌, ◌-◌, ◌*◌, ◌/◌, ◌%◌, ◌<◌, Bool, true, false, cond, not, ◌&&◌, ◌||◌, List, [], ◌∷◌, ◌++◌, length, drop, Ok, Err, Result, ◌==◌, nat_le, nat_lt}
+use Rattle.std.specs.Prelude.{◌≡◌, ℕ, ◌+◌, ◌-◌, ◌*◌, ◌/◌, ◌%◌, ◌<◌, ◌≤◌, Bool, true, false, cond, not, ◌&&◌, ◌||◌, List, [], ◌∷◌, ◌++◌, length, drop, Ok, Err, Result, ◌==◌, nat_le, nat_lt}
 use Rattle.std.specs.List.{list_all}
 use Rattle.refusals.specs.declared.Refusal.{Refusal}
 use Rattle.refusals.specs.declared.Refusal.TheVariants.{Digits as DigitsRefusal, Frame as FrameRefusal}
@@ -45,9 +45,9 @@ spelled (b ∷ bs) = digits_of b ++ spelled bs
 abbrev pub longest : ℕ
 longest = 2050
 
--- What reading a line into a room leaves there and answers. The digits of the bytes that were read are the line again.
+-- What reading a line into a room leaves there and answers. The digits of the bytes that were read are the line again, and a frame can have as many.
 abbrev pub Decoded : List ℕ → List ℕ → List ℕ → Result ℕ Undecoded → Type 0
-Decoded line old new (Ok n) = (is_hex line ≡ true) × (n ≡ length (bytes_of line)) × (new ≡ bytes_of line ++ drop n old) × (spelled (bytes_of line) ≡ line)
+Decoded line old new (Ok n) = (is_hex line ≡ true) × (n ≡ length (bytes_of line)) × (new ≡ bytes_of line ++ drop n old) × (spelled (bytes_of line) ≡ line) × (n ≤ longest)
 Decoded line old new (Err NotDigits) = (is_hex line ≡ false) × (new ≡ old)
 Decoded line old new (Err TooLong) = (is_hex line ≡ true) × (longest < length (bytes_of line)) × (new ≡ old)
 

@@ -41,14 +41,14 @@ same_answer false true e = e
 same_answer false false e = refl
 
 -- the test of an example
-abbrev passes : Example → Bool
+abbrev pub passes : Example → Bool
 passes (forward_is clock from to shift) = int_eq (forward clock from to) shift
 passes (nearest_is clock from to shift) = int_eq (nearest clock from to) shift
 passes (sees_is rule q answer) = beq (rule q) answer
 passes (judged_as t rule j flags windows) = j.flags == count (length t.couplings) (flagged flags) && rounds_from t rule j.verdict flags windows j.rounds []
 
 -- a judgement that passes is that of the table
-judged : (t : Table) (rule : Question → Bool) (j : Judgement) (flags : List Bool) (windows : List Window) → Stands t → passes (judged_as t rule j flags windows) ≡ true → Holds (judged_as t rule j flags windows)
+pub judged : (t : Table) (rule : Question → Bool) (j : Judgement) (flags : List Bool) (windows : List Window) → Stands t → passes (judged_as t rule j flags windows) ≡ true → Holds (judged_as t rule j flags windows)
 judged t rule j flags windows stands e =
     let parts = and_parts (j.flags == count (length t.couplings) (flagged flags)) (rounds_from t rule j.verdict flags windows j.rounds []) e in
     let r = rounds_right t rule stands j.verdict flags windows j.rounds [] parts.1 in

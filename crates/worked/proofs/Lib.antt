@@ -4,3 +4,4 @@ pub mod Sweeping
 pub mod Reading
 pub mod Rounds
 pub mod Holding
+pub mod Meaning

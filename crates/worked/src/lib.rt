@@ -5,6 +5,7 @@
 ghost use Rattle.std.specs.Prelude.{◌≡◌};
 ghost use Rattle.worked.specs.Designs.{DesignsStand};
 ghost use Rattle.worked.specs.Examples.{AllHold, examples};
+ghost use Rattle.worked.specs.ClosedSets.{ClosedSetsOfK};
 
 pub mod theorem;
 
@@ -24,4 +25,12 @@ pub fn worked_examples() -> Theorem
     ensures value { result ≡ Theorem.WorkedExamples }
 {
     Theorem::WorkedExamples
+}
+
+// What some of their judgements say of all sets of couplings.
+pub fn closed_sets_of_k() -> Theorem
+    ensures theorem { ClosedSetsOfK }
+    ensures value { result ≡ Theorem.ClosedSetsOfK }
+{
+    Theorem::ClosedSetsOfK
 }

@@ -5,4 +5,5 @@
 pub enum Theorem {
     DesignsStand,
     WorkedExamples,
+    ClosedSetsOfK,
 }
