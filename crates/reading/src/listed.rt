@@ -23,8 +23,9 @@ fn bytes_at<const N: usize>(bytes: &[u8], place: usize) -> [u8; N]
     array::from_fn(|k| rest.get(k).copied().unwrap_or(0))
 }
 
-// Figures have four bytes and sources two; `from_be_bytes` is a function of each type, so there are two of these.
-fn figure_at(bytes: &[u8], place: usize) -> u32
+// The figure in the four bytes from a place on. Sources have two bytes, and `from_be_bytes` is a function of each type,
+// so they have a function of their own.
+pub fn figure_at(bytes: &[u8], place: usize) -> u32
     ensures { result ≡ number_at 4 place bytes.now }
 {
     u32::from_be_bytes(bytes_at(bytes, place))

@@ -1,7 +1,7 @@
 // A judgement printed: the lines of its verdict, its windows and its flags.
 #![tactic(auto)]
 
-mod lines;
+pub mod lines;
 pub mod report;
 #[cfg(test)]
 mod tests;

@@ -17,7 +17,7 @@ fn signed_bytes(number: i64) -> [u8; 8]
 }
 
 // The number of the verdict, its latch, its excess, the rounds, and the flags set.
-pub(crate) fn verdict_bytes(judgement: &Judgement) -> [u8; 15]
+pub fn verdict_bytes(judgement: &Judgement) -> [u8; 15]
     ensures { result ≡ verdict_bytes judgement.now }
 {
     let verdict = judgement.verdict;

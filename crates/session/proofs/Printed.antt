@@ -36,7 +36,7 @@ use Rattle.session.specs.Printing.{bytes_for, answer_line, rule_in, rule_asked, 
 use Rattle.session.specs.Replies.{longest_reply, text_for, Put, LineDone, VerdictPut, IsSoFar, Replied}
 
 -- an answer has one byte or three
-few_bytes : (a : Result Answer Refusal) → length (bytes_for a) ≤ 3
+pub few_bytes : (a : Result Answer Refusal) → length (bytes_for a) ≤ 3
 few_bytes (Ok Done) = omega arith
 few_bytes (Ok (Node k)) = omega arith
 few_bytes (Ok (Coupling k)) = omega arith
@@ -81,7 +81,7 @@ frame_keeps l t (Ok f) rule is = kind_keeps l t f.kind f rule refl is
 frame_keeps l t (Err why) rule is = absurd cc
 
 -- what is printed for the reply to a change is its answer
-changed_line : (t : Table) (rows : ResultRows) (a : Result Answer Refusal) → text_for t rows (changed a) ≡ answer_line a
+pub changed_line : (t : Table) (rows : ResultRows) (a : Result Answer Refusal) → text_for t rows (changed a) ≡ answer_line a
 changed_line t rows (Ok a) = refl
 changed_line t rows (Err why) = refl
 
@@ -111,7 +111,7 @@ verdict_printed b loan sees rows rows' (Ok (Judged j)) h (inr (clock, lent, call
 verdict_printed b loan sees rows rows' (Err why) h far = rw (h.0) refl
 
 -- a line that is done on a table so far: what is printed for it, and the table after it
-done_printed : (asked : Option Rule) (b b' : Book) (loan loan' : Loan) (rows rows' : ResultRows) (line : List ℕ) (r : Result Reply Refusal)
+pub done_printed : (asked : Option Rule) (b b' : Book) (loan loan' : Loan) (rows rows' : ResultRows) (line : List ℕ) (r : Result Reply Refusal)
     → rule_asked (line_frame line) ≡ asked → LineDone asked b loan rows line b' loan' rows' r → IsSoFar (book_table b loan)
     → PrintsAs asked (lent_rows loan rows) (book_table b loan) line (text_for (book_table b loan) rows' r)
     × ((line_outcome (lent_in loan) (book_table b loan) line).table ≡ book_table b' loan')

@@ -1,0 +1,2 @@
+-- The definitions of this crate, in reading order.
+pub mod Status
