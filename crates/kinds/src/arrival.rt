@@ -1,5 +1,7 @@
 // What is known of a node's paths, as both kinds of delay keep it.
 
+use super::sums::sum;
+
 // `NoPath` is the mark of a node that no path comes to. `NoEnd` says that the figures of its paths grow past every number.
 #[derive(Clone, Copy, PartialEq, Eq, Debug)]
 pub enum Arrival {
@@ -18,7 +20,7 @@ impl Arrival {
         ensures { result ≡ stepped self gain }
     {
         match self {
-            Arrival::At(figure) => Arrival::At(figure.saturating_add(gain)),
+            Arrival::At(figure) => Arrival::At(sum(figure, gain)),
             _ => self,
         }
     }

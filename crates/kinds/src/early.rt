@@ -5,6 +5,7 @@ ghost use Rattle.kinds.specs.Laws.{climbs_one, earliest_lawful};
 
 use super::DelayKind;
 use super::arrival::Arrival;
+use super::sums::difference;
 use super::timings::{Delays, Start};
 
 // The earliest arrivals: of the figures that come together the least, and each latch starts from its opening edge.
@@ -32,6 +33,8 @@ impl DelayKind for Earliest {
     ghost laws = { earliest_lawful };
 
     ghost restart_stays = { Prim.search rules };
+
+    ghost restart_rests = { Prim.search rules };
 
     ghost climbs_at_most = { climbs_one };
 
@@ -61,7 +64,7 @@ impl DelayKind for Earliest {
     }
 
     fn between(from: Delays, _to: Delays, shift: i64) -> i64 {
-        from.least.saturating_sub(shift)
+        difference(from.least, shift)
     }
 
     fn restart(start: Arrival, _arrival: Arrival) -> Arrival {

@@ -1,9 +1,10 @@
 // The latest kind of delay.
 ghost use Rattle.kinds.specs.Arrivals.{latest_kind, latest_start, latest_between, can_climb, latest_restarts};
-ghost use Rattle.kinds.specs.Laws.{stays_unless_later, climbs_one, latest_lawful, restart_climbs, endless_climbs_less};
+ghost use Rattle.kinds.specs.Laws.{stays_unless_later, rests_restarted, climbs_one, latest_lawful, restart_climbs, endless_climbs_less};
 
 use super::DelayKind;
 use super::arrival::Arrival;
+use super::sums::difference;
 use super::timings::{Delays, Start};
 
 // The latest arrivals: of the figures that come together the greatest, and each latch passes on what came to it after its
@@ -33,6 +34,8 @@ impl DelayKind for Latest {
 
     ghost restart_stays = { stays_unless_later };
 
+    ghost restart_rests = { rests_restarted };
+
     ghost climbs_at_most = { climbs_one };
 
     ghost restart_climbs = { restart_climbs };
@@ -60,7 +63,7 @@ impl DelayKind for Latest {
     }
 
     fn between(from: Delays, _to: Delays, shift: i64) -> i64 {
-        from.greatest.saturating_sub(shift)
+        difference(from.greatest, shift)
     }
 
     fn restart(start: Arrival, arrival: Arrival) -> Arrival {

@@ -8,8 +8,10 @@ ghost use Rattle.kinds.specs.declared.timings.Start.{Start};
 ghost use Rattle.kinds.specs.declared.timings.Delays.{Delays};
 
 pub mod arrival;
+pub mod both;
 pub mod early;
 pub mod late;
+mod sums;
 pub mod timings;
 
 use timings::{Delays, Start};
@@ -78,6 +80,9 @@ pub trait DelayKind {
 
     // a latch that does not climb starts as before
     ghost restart_stays: { (start arrival : Self.Figure) → restarts.climbs start arrival ≡ false → restarts.restart start arrival ≡ start };
+
+    // what came to a latch does not climb over what the latch restarted from
+    ghost restart_rests: { (start arrival : Self.Figure) → restarts.climbs start arrival ≡ true → restarts.climbs (restarts.restart start arrival) arrival ≡ false };
 
     // no more figures can climb than an arrival holds
     ghost climbs_at_most: { (figure : Self.Figure) → can_climb figure ≤ FIGURES };

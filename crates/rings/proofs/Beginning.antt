@@ -43,5 +43,5 @@ found_begins n first gain starts column sound found ends =
       at = λ v l.
           let o : n.is_origin v ≡ true = sound.latches v l in
           let latest : IsLatest {n = n} {v = v} (adding first gain) every (starts v) = rw l at (found.nodes v (sound.origins v o)) in
-          latest_begins n first gain v (starts v) o latest (found.near v l) (ends v l);
+          latest_begins n first gain v (starts v) o latest (λ x e. let near = found.near v l x e in omega (arith, ints, near)) (ends v l);
     }

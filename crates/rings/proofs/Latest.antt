@@ -13,14 +13,14 @@ use Rattle.kinds.specs.declared.arrival.Arrival.TheVariants.{NoPath, At, NoEnd a
 use Rattle.kinds.specs.Arrivals.{latest_kind, is_later}
 use Rattle.rings.specs.Settling.{next_start, Restarted, unswept, after_sweep, Settled}
 use Rattle.kinds.specs.Arrivals.{latest_restarts}
-use Rattle.rings.specs.Found.{IsLatest, Says, furthest, Begins, LatestFound, LatestSettles}
+use Rattle.rings.specs.Found.{IsLatest, Says, settled_size, Begins, LatestFound, LatestSettles}
 use Rattle.rings.proofs.Reach.{later, Reaches, size_after, larger_size, Backed, Covered, OneSweep}
 use Rattle.rings.proofs.OneSweep.{same_figure, one_sweep}
 
 -- ---- starts, and arrivals that are later
 
 -- joined with an arrival that is later, a start is that arrival
-later_joins : (s c : Arrival) → is_later s c ≡ true → latest_kind.join s c ≡ c
+pub later_joins : (s c : Arrival) → is_later s c ≡ true → latest_kind.join s c ≡ c
 later_joins NoPath c h = refl
 later_joins (At x) NoPath h = absurd (true≢false (sym h))
 later_joins (At x) (At y) h = ap At (omega (arith, ints, clamps))
@@ -302,8 +302,8 @@ module _ (n : Network) (first : ℕ → ℤ) (gain : ℕ → ℕ → ℤ) (sound
           (λ h. h)
 
 module _ (n : Network) (course : Course Arrival ℤ) (first : ℕ → ℤ) (gain : ℕ → ℕ → ℤ) (sound : Sound n) (says : Says n course first gain) where
-  -- no path that enters few latches has a figure past the furthest
-  few_near : {v : ℕ} (p : Path n v) → v < n.size → latches_entered p ≤ latch_count n → figure (adding first gain) p ≤ℤ furthest
+  -- no path that enters few latches has a figure past the settled size
+  few_near : {v : ℕ} (p : Path n v) → v < n.size → latches_entered p ≤ latch_count n → figure (adding first gain) p ≤ℤ settled_size
   few_near {v} p lt less =
       let small : Within (suc (steps p) * 4294967296) (figure (adding first gain) p) = path_small n first gain 4294967296 says.small_starts says.small_gains p in
       let count : steps p ≤ 16785407 = omega (arith, few_steps n sound says.few p, less, count-most n.size n.is_latch, says.few, lt) in
@@ -334,7 +334,7 @@ module _ (n : Network) (course : Course Arrival ℤ) (first : ℕ → ℤ) (gain
         nodes = node_found n first gain sound column b one s.still;
         arrivals = arrival_found n first gain sound column b one s.still;
         led = led_found n first gain sound column b one s.still;
-        near = λ v l. near_found n first gain sound column b one s.still v furthest l (λ p less. few_near p (latch_below n first gain sound v l) less);
+        near = λ v l. near_found n first gain sound column b one s.still v settled_size l (λ p less. few_near p (latch_below n first gain sound v l) less);
       }
 
 -- sweeps of the latest kind settle on the greatest figures

@@ -4,3 +4,5 @@ pub mod OneSweep
 pub mod Latest
 pub mod Beginning
 pub mod Earliest
+pub mod Nearing
+pub mod Together

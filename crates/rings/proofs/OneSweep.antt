@@ -6,7 +6,7 @@ use Rattle.std.specs.Int.{int_max, int_min}
 use Rattle.paths.specs.Networks.{Network, Path, start, step, Connected, IsIn, Sound, has_step, latches_entered}
 use Rattle.paths.specs.Figures.{figure, adding, every, Unbounded}
 use Rattle.paths.specs.Kinds.{Kind, joined}
-use Rattle.paths.specs.Sweeps.{Course, leaving, own, Swept}
+use Rattle.paths.specs.Sweeps.{Course, leaving, own, arrival, Swept}
 use Rattle.paths.proofs.Steps.{Within}
 use Rattle.kinds.specs.declared.arrival.Arrival.{Arrival}
 use Rattle.kinds.specs.declared.arrival.Arrival.TheVariants.{NoPath, At, NoEnd as Endless}
@@ -23,7 +23,7 @@ pick_of later = int_max
 pick_of earlier = int_min
 
 -- a kind by its pick
-abbrev plain : Way → Kind Arrival ℤ
+abbrev pub plain : Way → Kind Arrival ℤ
 plain way = record { no_path = NoPath; join = joined_by (pick_of way); step = stepped }
 
 -- each kind is the one by its pick
@@ -113,13 +113,13 @@ pub same_figure : (x y : ℤ) → At x ≡ At y → x ≡ y
 same_figure x y e = cc
 
 -- what comes along a connection with a figure left with one
-stepped_at : (a : Arrival) (g x : ℤ) → stepped a g ≡ At x → (y : ℤ) × (a ≡ At y) × (sum_within y g ≡ x)
+pub stepped_at : (a : Arrival) (g x : ℤ) → stepped a g ≡ At x → (y : ℤ) × (a ≡ At y) × (sum_within y g ≡ x)
 stepped_at NoPath g x e = absurd cc
 stepped_at (At y) g x e = (y, refl, same_figure _ x e)
 stepped_at Endless g x e = absurd cc
 
 -- what comes without an end left without one
-stepped_endless : (a : Arrival) (g : ℤ) → stepped a g ≡ Endless → a ≡ Endless
+pub stepped_endless : (a : Arrival) (g : ℤ) → stepped a g ≡ Endless → a ≡ Endless
 stepped_endless NoPath g e = absurd cc
 stepped_endless (At y) g e = absurd cc
 stepped_endless Endless g e = refl
@@ -135,17 +135,17 @@ enters_before : {n : Network} {v : ℕ} (p : Path n v) → n.is_latch v ≡ fals
 enters_before (start o) t = refl
 enters_before (step p c) t = rw t refl
 
--- ---- one sweep
+-- ---- what comes to a node
 
-module _ (way : Way) (n : Network) (course : Course Arrival ℤ) (first : ℕ → ℤ) (gain : ℕ → ℕ → ℤ) (k : ℕ) (starts column : ℕ → Arrival) (sound : Sound n) (says : Says n course first gain) (few : k ≤ 4096) (from : Backed way n (adding first gain) k starts) (swept : Swept (plain way) n course starts column) where
-  -- the figure with which a node is left
-  abbrev leaves : ℕ → Arrival
-  leaves u = leaving n starts column u
+-- the figure that comes to node v along its connection from u
+abbrev pub brought : Network → Course Arrival ℤ → (ℕ → Arrival) → (ℕ → Arrival) → ℕ → ℕ → Arrival
+brought n course starts column v u = stepped (leaving n starts column u) (course.step u v)
 
-  -- the figure that comes along a connection
-  abbrev along : ℕ → ℕ → Arrival
-  along v u = stepped (leaves u) (course.step u v)
+-- a figure that is the mark, or the first of an input, or what comes along one of the connections of a node
+abbrev pub Made : Network → Course Arrival ℤ → (ℕ → ℤ) → (ℕ → Arrival) → (ℕ → Arrival) → ℕ → Arrival → Type 0
+Made n course first starts column v came = (came ≡ NoPath) ⊎ (((n.is_origin v ≡ true) × (n.is_latch v ≡ false) × (came ≡ At (first v))) ⊎ ((u : ℕ) × (Connected n u v) × (came ≡ brought n course starts column v u)))
 
+module _ (way : Way) (n : Network) (course : Course Arrival ℤ) (first : ℕ → ℤ) {gain : ℕ → ℕ → ℤ} (says : Says n course first gain) where
   -- an input has its own figure, and no other node has one
   own_is : (v : ℕ) → (own (plain way) n course v ≡ NoPath) ⊎ ((n.is_origin v ≡ true) × (n.is_latch v ≡ false) × (own (plain way) n course v ≡ At (first v)))
   own_is v =
@@ -157,25 +157,37 @@ module _ (way : Way) (n : Network) (course : Course Arrival ℤ) (first : ℕ �
       (λ (e : (n.is_origin v && not (n.is_latch v)) ≡ false). inl (rw e refl))
       (cases_Bool (n.is_origin v && not (n.is_latch v)))
 
-  -- what the figure at a node is made of
-  abbrev MadeOf : ℕ → Type 0
-  MadeOf v = (column v ≡ NoPath) ⊎ (((n.is_origin v ≡ true) × (n.is_latch v ≡ false) × (column v ≡ At (first v))) ⊎ ((u : ℕ) × (Connected n u v) × (column v ≡ along v u)))
-
-  -- it is the mark, or the first of an input, or what comes along one of its connections
-  made_of : (v : ℕ) → v < n.size → MadeOf v
-  made_of v lt =
+  -- what comes to a node is such a figure
+  pub comes_of : (starts column : ℕ → Arrival) (v : ℕ) (came : Arrival) → came ≡ arrival (plain way) n course starts column v → Made n course first starts column v came
+  comes_of starts column v came is =
+      let along : ℕ → Arrival = brought n course starts column v in
       ⊎_elim
-      (λ (h : column v ≡ own (plain way) n course v).
+      (λ (h : came ≡ own (plain way) n course v).
       ⊎_elim
       (λ (e : own (plain way) n course v ≡ NoPath). inl (h ∙ e))
       (λ (e : (n.is_origin v ≡ true) × (n.is_latch v ≡ false) × (own (plain way) n course v ≡ At (first v))). inr (inl (e.0, e.1, h ∙ e.2)))
       (own_is v))
-      (λ (h : column v ≡ joined (plain way) (map (along v) (n.sources v))).
+      (λ (h : came ≡ joined (plain way) (map along (n.sources v))).
       ⊎_elim
-      (λ (e : joined (plain way) (map (along v) (n.sources v)) ≡ NoPath). inl (h ∙ e))
-      (λ (e : (u : ℕ) × (IsIn u (n.sources v)) × (joined (plain way) (map (along v) (n.sources v)) ≡ along v u)). inr (inr (e.0, e.1, h ∙ e.2)))
-      (joined_one way (along v) (n.sources v)))
-      (rw (← swept v lt) at (joins_one way (own (plain way) n course v) (joined (plain way) (map (along v) (n.sources v)))))
+      (λ (e : joined (plain way) (map along (n.sources v)) ≡ NoPath). inl (h ∙ e))
+      (λ (e : (u : ℕ) × (IsIn u (n.sources v)) × (joined (plain way) (map along (n.sources v)) ≡ along u)). inr (inr (e.0, e.1, h ∙ e.2)))
+      (joined_one way along (n.sources v)))
+      (rw (← is) at (joins_one way (own (plain way) n course v) (joined (plain way) (map along (n.sources v)))))
+
+-- ---- one sweep
+
+module _ (way : Way) (n : Network) (course : Course Arrival ℤ) (first : ℕ → ℤ) (gain : ℕ → ℕ → ℤ) (k : ℕ) (starts column : ℕ → Arrival) (sound : Sound n) (says : Says n course first gain) (few : k ≤ 4096) (from : Backed way n (adding first gain) k starts) (swept : Swept (plain way) n course starts column) where
+  -- the figure with which a node is left
+  abbrev leaves : ℕ → Arrival
+  leaves u = leaving n starts column u
+
+  -- the figure that comes along a connection
+  abbrev along : ℕ → ℕ → Arrival
+  along = brought n course starts column
+
+  -- the figure at a node is the mark, or the first of an input, or what comes along one of its connections
+  made_of : (v : ℕ) → v < n.size → Made n course first starts column v (column v)
+  made_of v lt = comes_of way n course first says starts column v (column v) (swept v lt)
 
   -- what leaves a node is not past the figure of some path, and not large
   abbrev LeftBy : ℕ → ℤ → Type 0

@@ -36,7 +36,11 @@ pub record Says (n : Network) (course : Course Arrival ℤ) (first : ℕ → ℤ
   pub small_starts : (v : ℕ) → n.is_origin v ≡ true → Small (first v)
   pub small_gains : (k v : ℕ) → Connected n k v → Small (gain k v)
 
--- 2 ^ 57. A path that enters no more latches than there are follows fewer than 4096 * 4098 connections, so it has no greater figure, nor has what sweeps find with an end.
+-- 2 ^ 56 + 2 ^ 46. A path that enters no more latches than there are follows fewer than 4096 * 4098 connections, so it has no greater figure, nor has a latch that settled sweeps leave with an end.
+abbrev pub settled_size : ℤ
+settled_size = pos 72127962782105600
+
+-- 2 ^ 57: past every figure that settled sweeps leave a latch with, or visits after them
 abbrev pub furthest : ℤ
 furthest = pos 144115188075855872
 
@@ -44,12 +48,12 @@ furthest = pos 144115188075855872
 pub record Begins (n : Network) (first : ℕ → ℤ) (gain : ℕ → ℕ → ℤ) (begun : ℕ → Arrival) : Type 0 where
   pub at : (v : ℕ) → n.is_latch v ≡ true → (x : ℤ) × (begun v ≡ At x) × (first v ≤ℤ x) × (x ≤ℤ furthest) × (p : Path n v) × (x ≤ℤ figure (adding first gain) p)
 
--- what settled sweeps of the latest kind have found: at each node its paths, at each latch those of one step or more too, no node without an end but where a latch has none, and no latch that starts past the furthest figure but without an end
+-- what settled sweeps of the latest kind have found: at each node its paths, at each latch those of one step or more too, no node without an end but where a latch has none, and no latch that starts past the settled size but without an end
 pub record LatestFound (n : Network) (first : ℕ → ℤ) (gain : ℕ → ℕ → ℤ) (starts column : ℕ → Arrival) : Type 0 where
   pub nodes : (v : ℕ) → v < n.size → IsLatest {n = n} {v = v} (adding first gain) every (leaving n starts column v)
   pub arrivals : (v : ℕ) → v < n.size → n.is_latch v ≡ true → IsLatest {n = n} {v = v} (adding first gain) has_step (column v)
   pub led : (v : ℕ) → v < n.size → leaving n starts column v ≡ NoEnd → (u : ℕ) × (u < n.size) × (n.is_latch u ≡ true) × (starts u ≡ NoEnd)
-  pub near : (v : ℕ) → n.is_latch v ≡ true → (x : ℤ) → starts v ≡ At x → x ≤ℤ furthest
+  pub near : (v : ℕ) → n.is_latch v ≡ true → (x : ℤ) → starts v ≡ At x → x ≤ℤ settled_size
 
 -- Whatever latches may begin from, sweeps of the latest kind settle on the greatest figures. A latch that climbs in a sweep before which as many were made as there are latches has no end, nor has what it leads to.
 abbrev pub LatestSettles : Type 0

@@ -1,3 +1,4 @@
 -- The definitions of this crate, in reading order.
 pub mod Settling
 pub mod Found
+pub mod InPlace

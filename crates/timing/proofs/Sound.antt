@@ -161,21 +161,21 @@ start_slight c count k (Latch phase least greatest setup hold source) law h =
     (opens, opens)
 
 -- the least delay of a row that stands is within its limit
-least_within : (c : Clock) (count k : ℕ) (x : Node) → RowStands c count k x → least_delay x ≤ 1048575
+pub least_within : (c : Clock) (count k : ℕ) (x : Node) → RowStands c count k x → least_delay x ≤ 1048575
 least_within c count k Free h = omega arith
 least_within c count k (Input phase earliest latest) h = omega arith
 least_within c count k (Gate phase least greatest sources) h = omega arith
 least_within c count k (Latch phase least greatest setup hold source) h = omega arith
 
 -- and so is the greatest
-greatest_within : (c : Clock) (count k : ℕ) (x : Node) → RowStands c count k x → own_greatest x ≤ 1048575
+pub greatest_within : (c : Clock) (count k : ℕ) (x : Node) → RowStands c count k x → own_greatest x ≤ 1048575
 greatest_within c count k Free h = omega arith
 greatest_within c count k (Input phase earliest latest) h = omega arith
 greatest_within c count k (Gate phase least greatest sources) h = omega arith
 greatest_within c count k (Latch phase least greatest setup hold source) h = omega arith
 
 -- a coupling whose amounts are within their limit
-abbrev AmountsFit : Coupling → Type 0
+abbrev pub AmountsFit : Coupling → Type 0
 AmountsFit k = (k.assisting ≤ 1048575) × (k.opposing ≤ 1048575)
 
 -- a number or nothing is no more than the number
@@ -194,7 +194,7 @@ assisting_adds true k xs v fit = omega (arith, some_or_none (k.victim == v) k.as
 assisting_adds false k xs v fit = omega arith
 
 -- what opposes a victim under a set of couplings is within the limit times the number of couplings
-opposing_within : (S : ℕ → Bool) (i : ℕ) (ks : List Coupling) (v : ℕ) → ((j : ℕ) → j < length ks → AmountsFit (get_or ks j no_coupling)) → opposing_of (chosen_from S i ks) v ≤ length ks * 1048575
+pub opposing_within : (S : ℕ → Bool) (i : ℕ) (ks : List Coupling) (v : ℕ) → ((j : ℕ) → j < length ks → AmountsFit (get_or ks j no_coupling)) → opposing_of (chosen_from S i ks) v ≤ length ks * 1048575
 opposing_within S i [] v fit = omega arith
 opposing_within S i (k ∷ ks) v fit =
     let rest = opposing_within S (suc i) ks v (λ j lt. fit (suc j) (omega arith)) in
@@ -202,7 +202,7 @@ opposing_within S i (k ∷ ks) v fit =
     omega (arith, rest, here)
 
 -- and so is what assists it
-assisting_within : (S : ℕ → Bool) (i : ℕ) (ks : List Coupling) (v : ℕ) → ((j : ℕ) → j < length ks → AmountsFit (get_or ks j no_coupling)) → assisting_of (chosen_from S i ks) v ≤ length ks * 1048575
+pub assisting_within : (S : ℕ → Bool) (i : ℕ) (ks : List Coupling) (v : ℕ) → ((j : ℕ) → j < length ks → AmountsFit (get_or ks j no_coupling)) → assisting_of (chosen_from S i ks) v ≤ length ks * 1048575
 assisting_within S i [] v fit = omega arith
 assisting_within S i (k ∷ ks) v fit =
     let rest = assisting_within S (suc i) ks v (λ j lt. fit (suc j) (omega arith)) in
