@@ -1,5 +1,6 @@
 -- Sweeps over a circuit are sweeps over the table that it shows.
-use Rattle.std.proofs.Common.{◌≡◌, ℕ, ◌*◌, ◌<◌, Bool, List, [], ◌∷◌, length, map, ℤ, refl, ap, ◌∙◌, inl, inr, arith}
+use Rattle.std.proofs.Common.{◌≡◌, ℕ, ◌*◌, ◌<◌, Bool, true, List, [], ◌∷◌, length, map, ℤ, refl, sym, ap, ◌∙◌, inl, inr, arith}
+use Rattle.std.proofs.lemmas.Bool.{true≢false}
 use Rattle.design.specs.Table.{Table}
 use Rattle.design.specs.SoFar.{Stands}
 use Rattle.schedule.specs.Clock.{Clock}
@@ -8,7 +9,7 @@ use Rattle.kinds.specs.declared.timings.Start.{Start}
 use Rattle.kinds.specs.declared.timings.Delays.{Delays}
 use Rattle.paths.specs.Networks.{Network, IsIn, Connected, Sound}
 use Rattle.paths.specs.Kinds.{Kind, joined}
-use Rattle.paths.specs.Sweeps.{Course, leaving, own, along, Swept}
+use Rattle.paths.specs.Sweeps.{Course, leaving, own, along, arrival, Swept}
 use Rattle.paths.specs.Kinds.{Restarts}
 use Rattle.rings.specs.Settling.{Restarted, unswept, after_sweep, Settled}
 use Rattle.timing.specs.Connections.{row, network, start_at}
@@ -32,23 +33,28 @@ use Rattle.windows.specs.Seen.{network_of, course_of}
 use Rattle.windows.specs.Rings.{first_of}
 use Rattle.windows.specs.Found.{Shows}
 
+module _ {F S : Type 0} (kind : Kind F S) (n : Network) (course course' : Course F S) where
+  -- what comes along connections to a node is the same over courses that agree on them
+  along_agrees : (starts column : ℕ → F) (v : ℕ) → ((k : ℕ) → Connected n k v → course.step k v ≡ course'.step k v) → (ks : List ℕ) → ((k : ℕ) → IsIn k ks → Connected n k v) →
+      joined kind (map (along kind n course starts column v) ks) ≡ joined kind (map (along kind n course' starts column v) ks)
+  along_agrees starts column v same_step [] h = refl
+  along_agrees starts column v same_step (k ∷ ks) h =
+      ap (λ s. kind.join (kind.step (leaving n starts column k) s) (joined kind (map (along kind n course starts column v) ks))) (same_step k (h k (inl refl)))
+      ∙ ap (kind.join (along kind n course' starts column v k)) (along_agrees starts column v same_step ks (λ u i. h u (inr i)))
+
+  -- so is all that comes to it, where they agree on what it starts with
+  pub arrival_agrees : (starts column : ℕ → F) (v : ℕ) → course.start v ≡ course'.start v → ((k : ℕ) → Connected n k v → course.step k v ≡ course'.step k v) →
+      arrival kind n course starts column v ≡ arrival kind n course' starts column v
+  arrival_agrees starts column v same_start same_step =
+      let start : own kind n course v ≡ own kind n course' v = rw same_start refl in
+      ap (λ f. kind.join f (joined kind (map (along kind n course starts column v) (n.sources v)))) start
+      ∙ ap (kind.join (own kind n course' v)) (along_agrees starts column v same_step (n.sources v) (λ k i. i))
+
 module _ {F S : Type 0} (kind : Kind F S) (n : Network) (course course' : Course F S) (same_start : (v : ℕ) → course.start v ≡ course'.start v)
     (same_step : (k v : ℕ) → Connected n k v → course.step k v ≡ course'.step k v) where
-  -- what comes along connections is the same over courses that agree on them
-  along_agrees : (starts column : ℕ → F) (v : ℕ) (ks : List ℕ) → ((k : ℕ) → IsIn k ks → Connected n k v) →
-      joined kind (map (along kind n course starts column v) ks) ≡ joined kind (map (along kind n course' starts column v) ks)
-  along_agrees starts column v [] h = refl
-  along_agrees starts column v (k ∷ ks) h =
-      ap (λ s. kind.join (kind.step (leaving n starts column k) s) (joined kind (map (along kind n course starts column v) ks))) (same_step k v (h k (inl refl)))
-      ∙ ap (kind.join (along kind n course' starts column v k)) (along_agrees starts column v ks (λ u i. h u (inr i)))
-
   -- and so is a sweep
   swept_agrees : (starts column : ℕ → F) → Swept kind n course starts column → Swept kind n course' starts column
-  swept_agrees starts column swept v lt =
-      let start : own kind n course v ≡ own kind n course' v = rw (same_start v) refl in
-      swept v lt
-      ∙ (ap (λ f. kind.join f (joined kind (map (along kind n course starts column v) (n.sources v)))) start
-      ∙ ap (kind.join (own kind n course' v)) (along_agrees starts column v (n.sources v) (λ k i. i)))
+  swept_agrees starts column swept v lt = swept v lt ∙ arrival_agrees kind n course course' starts column v (same_start v) (λ k c. same_step k v c)
 
   -- and so are the starts after any number of sweeps
   restarted_agrees : {r : Restarts F} {limit : ℕ} {first : ℕ → F} {made : ℕ} {starts : ℕ → F} → Restarted kind n course r limit first made starts → Restarted kind n course' r limit first made starts
@@ -107,3 +113,8 @@ pub earliest_of : (t : Table) (couplings : ℕ → Bool) (c : Circuit) → Stand
 earliest_of t couplings c stands shows limit made starts column s =
     earliest_settles (network t.nodes) _ (early_start t) (early_gain t couplings) limit made starts column (stands_sound t stands) (stands_says_earliest t couplings stands)
     (settled_shown earliest_kind earliest_start earliest_between t couplings c (stands_sound t stands) shows earliest_restarts (λ n. limit) made starts column s)
+
+-- sweeps of the earliest kind leave the starts of latches as they began
+pub opened_still : {n : Network} {course : Course Arrival ℤ} {limit : ℕ} {first : ℕ → Arrival} {made : ℕ} {starts : ℕ → Arrival} → Restarted earliest_kind n course earliest_restarts limit first made starts → (v : ℕ) → n.is_latch v ≡ true → starts v ≡ first v
+opened_still (unswept e) v l = e v l
+opened_still (after_sweep column starts' before swept w latch climbs next) v l = absurd (true≢false (sym climbs))

@@ -7,7 +7,7 @@ use Rattle.paths.specs.Networks.{IsIn}
 use Rattle.timing.specs.Connections.{row, fed_from}
 use Rattle.windows.specs.declared.blocks.Leads.{Leads}
 use Rattle.windows.specs.declared.blocks.Blocks.{Blocks}
-use Rattle.windows.specs.Blocks.{block_of, has_block, led_from, IsNext}
+use Rattle.windows.specs.Blocks.{block_of, blocks_of, has_block, led_from, IsNext}
 
 -- a number below the next one is below this one or is it
 pub below_next : (v w : ℕ) → v < w + 1 → (v < w) ⊎ (v ≡ w)
@@ -24,33 +24,42 @@ pub record Joined (old other new : List Bool) (i : ℕ) : Type 0 where
   pub rest : (b : ℕ) → i ≤ b → get_or new b false ≡ get_or old b false
 
 -- the block from which on a loop goes over a set of blocks: its next one, or the end
-abbrev pub reached : Option ℕ → ℕ
-reached None = 128
-reached (Some b) = b
+abbrev pub reached : ℕ → Option ℕ → ℕ
+reached to None = to
+reached to (Some b) = b
 
--- the next block, if there is one, is in the set
-abbrev pub IsHere : Blocks → Option ℕ → Type 0
-IsHere blocks None = Unit {0}
-IsHere blocks (Some b) = (b < 128) × (has_block blocks b ≡ true)
+-- the next block, if there is one, is in the set and below the end
+abbrev pub IsHere : Blocks → ℕ → Option ℕ → Type 0
+IsHere blocks to None = Unit {0}
+IsHere blocks to (Some b) = (b < to) × (has_block blocks b ≡ true)
 
 -- a block that is found by looking for the next one is such
-pub here_next : (blocks : Blocks) (from : ℕ) (o : Option ℕ) → IsNext blocks from o → IsHere blocks o
-here_next blocks from None h = tt
-here_next blocks from (Some b) h = (h.1, h.2)
+pub here_next : (blocks : Blocks) (from to : ℕ) (o : Option ℕ) → IsNext blocks from to o → IsHere blocks to o
+here_next blocks from to None h = tt
+here_next blocks from to (Some b) h = (h.1, h.2)
 
 -- the blocks before the next one are not in the set
-pub passed_next : (blocks : Blocks) (from : ℕ) (o : Option ℕ) → IsNext blocks from o → (b : ℕ) → b < reached o → (b < from) ⊎ (has_block blocks b ≡ false)
-passed_next blocks from None h b lt = ⊎_elim (λ (l : b < from). inl l) (λ (l : from ≤ b). inr (h b l)) (cases_lt b from)
-passed_next blocks from (Some next) h b lt = ⊎_elim (λ (l : b < from). inl l) (λ (l : from ≤ b). inr (h.3 b l lt)) (cases_lt b from)
+pub passed_next : (blocks : Blocks) (from to : ℕ) (o : Option ℕ) → IsNext blocks from to o → (b : ℕ) → b < reached to o → (b < from) ⊎ (has_block blocks b ≡ false)
+passed_next blocks from to None h b lt = ⊎_elim (λ (l : b < from). inl l) (λ (l : from ≤ b). inr (h b l lt)) (cases_lt b from)
+passed_next blocks from to (Some next) h b lt = ⊎_elim (λ (l : b < from). inl l) (λ (l : from ≤ b). inr (h.3 b l lt)) (cases_lt b from)
+
+-- the next block from one on does not stand before it
+pub next_behind : (blocks : Blocks) (from to : ℕ) (o : Option ℕ) → IsNext blocks from to o → from ≤ to → from ≤ reached to o
+next_behind blocks from to None h le = le
+next_behind blocks from to (Some b) h le = h.0
+
+-- every node stands in one of the blocks that hold so many
+pub in_blocks : (count v : ℕ) → v < count → block_of v < blocks_of count
+in_blocks count v lt = omega arith
 
 -- what is led to is stale
 pub or_led : (a b : Bool) → b ≡ true → (a || b) ≡ true
 or_led true b h = refl
 or_led false b h = h
 
--- the connection from k to v is among the leads
+-- the connection from k to v is among the leads, or v stands behind k in its block
 abbrev pub IsLed : Leads → ℕ → ℕ → Type 0
-IsLed leads k v = k < 4096 → v < 4096 → has_block (led_from leads (block_of k)) (block_of v) ≡ true
+IsLed leads k v = k < 4096 → v < 4096 → ((block_of k ≡ block_of v) × (k < v)) ⊎ (has_block (led_from leads (block_of k)) (block_of v) ≡ true)
 
 -- the connections to the nodes below a number are
 pub record LedBelow (nodes : List Node) (leads : Leads) (i : ℕ) : Type 0 where
@@ -65,7 +74,11 @@ abbrev pub GrownLeads : Leads → Leads → Type 0
 GrownLeads old new = (a b : ℕ) → has_block (led_from old a) b ≡ true → has_block (led_from new a) b ≡ true
 
 still_led : (old new : Leads) → GrownLeads old new → (k v : ℕ) → IsLed old k v → IsLed new k v
-still_led old new grown k v h lk lv = grown (block_of k) (block_of v) (h lk lv)
+still_led old new grown k v h lk lv =
+    ⊎_elim
+    (λ (b : (block_of k ≡ block_of v) × (k < v)). inl b)
+    (λ (l : has_block (led_from old (block_of k)) (block_of v) ≡ true). inr (grown (block_of k) (block_of v) l))
+    (h lk lv)
 
 pub below_grown : {nodes : List Node} {i : ℕ} (old new : Leads) → GrownLeads old new → LedBelow nodes old i → LedBelow nodes new i
 below_grown old new grown h = record { led = λ v lt k c. still_led old new grown k v (h.led v lt k c) }

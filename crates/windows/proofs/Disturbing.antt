@@ -17,14 +17,14 @@ use Rattle.windows.specs.Delays.{delays_at}
 use Rattle.windows.specs.Effective.{own_delays, IsSmall, AmountsSmall, disturbed, disturbed_at}
 
 -- places that hold the delays of the first so many rows by themselves, and past these none
-pub record Owned (nodes : List Node) (n : ℕ) (places : List Delays) : Type 0 where
-  pub long : length places ≡ 4096
+pub record Owned (room : ℕ) (nodes : List Node) (n : ℕ) (places : List Delays) : Type 0 where
+  pub long : length places ≡ room
   pub small : (v : ℕ) → IsSmall (delays_at places v)
-  pub done : (v : ℕ) → v < n → v < 4096 → delays_at places v ≡ own_delays (row nodes v)
+  pub done : (v : ℕ) → v < n → v < room → delays_at places v ≡ own_delays (row nodes v)
   pub left : (v : ℕ) → n ≤ v → delays_at places v ≡ own_delays Free
 
 -- a place among equal ones, or past them
-same_everywhere : {X : Type 0} (n v : ℕ) (x : X) → get_or (replicate n x) v x ≡ x
+pub same_everywhere : {X : Type 0} (n v : ℕ) (x : X) → get_or (replicate n x) v x ≡ x
 same_everywhere n v x =
     elim (cases_lt v n) [
       | inl below ↦ get_or-replicate n v x x below
@@ -36,18 +36,18 @@ none_small : IsSmall (own_delays Free)
 none_small = (omega (arith, ints), omega (arith, ints))
 
 -- before the first row no place has delays
-pub owned_none : (nodes : List Node) → Owned nodes 0 (replicate 4096 (own_delays Free))
-owned_none nodes =
+pub owned_none : (room : ℕ) (nodes : List Node) → Owned room nodes 0 (replicate room (own_delays Free))
+owned_none room nodes =
     record {
-      long = length-replicate 4096 (own_delays Free);
-      small = λ v. rw (same_everywhere 4096 v (own_delays Free)) none_small;
+      long = length-replicate room (own_delays Free);
+      small = λ v. rw (same_everywhere room v (own_delays Free)) none_small;
       done = λ v below lt. absurd (omega (arith, below));
-      left = λ v above. same_everywhere 4096 v (own_delays Free);
+      left = λ v above. same_everywhere room v (own_delays Free);
     }
 
 -- one more row
-pub owned_more : (nodes : List Node) (n : ℕ) (places : List Delays) → n < 4096 → IsSmall (own_delays (row nodes n)) → Owned nodes n places → Owned nodes (n + 1) (set places n (own_delays (row nodes n)))
-owned_more nodes n places lt small h =
+pub owned_more : (room : ℕ) (nodes : List Node) (n : ℕ) (places : List Delays) → n < room → IsSmall (own_delays (row nodes n)) → Owned room nodes n places → Owned room nodes (n + 1) (set places n (own_delays (row nodes n)))
+owned_more room nodes n places lt small h =
     let d : Delays = own_delays Free in
     let x : Delays = own_delays (row nodes n) in
     let within : n < length places = omega (arith, h.long, lt) in
@@ -67,8 +67,8 @@ owned_more nodes n places lt small h =
     }
 
 -- a row past the last place is left out
-pub owned_beyond : (nodes : List Node) (n : ℕ) (places : List Delays) → 4096 ≤ n → Owned nodes n places → Owned nodes (n + 1) places
-owned_beyond nodes n places le h =
+pub owned_beyond : (room : ℕ) (nodes : List Node) (n : ℕ) (places : List Delays) → room ≤ n → Owned room nodes n places → Owned room nodes (n + 1) places
+owned_beyond room nodes n places le h =
     record {
       long = h.long;
       small = h.small;
@@ -77,19 +77,19 @@ owned_beyond nodes n places le h =
     }
 
 -- with all rows done, every place holds what its row has by itself
-pub owned_all : (nodes : List Node) (n : ℕ) (places : List Delays) → length nodes ≤ n → Owned nodes n places → (v : ℕ) → v < 4096 → delays_at places v ≡ own_delays (row nodes v)
-owned_all nodes n places all h v lt =
+pub owned_all : (room : ℕ) (nodes : List Node) (n : ℕ) (places : List Delays) → length nodes ≤ n → Owned room nodes n places → (v : ℕ) → v < room → delays_at places v ≡ own_delays (row nodes v)
+owned_all room nodes n places all h v lt =
     elim (cases_lt v n) [
       | inl below ↦ h.done v below lt
       | inr above ↦ h.left v above ∙ ap own_delays (sym (get_or_past nodes v Free (omega (arith, all, above))))
     ]
 
 -- a choice between two things by numbers that are equal
-chosen_same : {X : Type 0} (a b : ℕ) (x y : X) → a ≡ b → cond (a == b) x y ≡ x
+pub chosen_same : {X : Type 0} (a b : ℕ) (x y : X) → a ≡ b → cond (a == b) x y ≡ x
 chosen_same a b x y e = grind (arith, nat_tests)
 
 -- and by numbers that differ
-chosen_other : {X : Type 0} (a b : ℕ) (x y : X) → (a ≡ b → ⊥) → cond (a == b) x y ≡ y
+pub chosen_other : {X : Type 0} (a b : ℕ) (x y : X) → (a ≡ b → ⊥) → cond (a == b) x y ≡ y
 chosen_other a b x y e = grind (arith, nat_tests)
 
 -- a coupling that acts disturbs its victim and no other node
@@ -103,8 +103,8 @@ disturbed_victim places k within v =
     (cases_eq v k.victim)
 
 -- one whose victim is past the last place disturbs none
-pub disturbed_beyond : (places : List Delays) (k : Coupling) → 4096 ≤ k.victim → (v : ℕ) → v < 4096 → delays_at places v ≡ disturbed_at k v (delays_at places v)
-disturbed_beyond places k past v lt = sym (chosen_other k.victim v (disturbed k (delays_at places v)) (delays_at places v) (λ (e : k.victim ≡ v). omega (arith, e, past, lt)))
+pub disturbed_beyond : (room : ℕ) (places : List Delays) (k : Coupling) → room ≤ k.victim → (v : ℕ) → v < room → delays_at places v ≡ disturbed_at k v (delays_at places v)
+disturbed_beyond room places k past v lt = sym (chosen_other k.victim v (disturbed k (delays_at places v)) (delays_at places v) (λ (e : k.victim ≡ v). omega (arith, e, past, lt)))
 
 -- One place on the way: what it holds, with what the couplings to come do, is what its row has by itself with what all of the couplings do; and n couplings have taken it no further than they can.
 pub record Summed (own : Node) (all left : List Coupling) (v n : ℕ) (d : Delays) : Type 0 where
@@ -130,13 +130,13 @@ summed_own own all v d e small =
     }
 
 -- a number that is no more than so far from 0 is itself within 64 bits
-near_exact : (z : ℤ) → neg_ℤ (pos (1025 * 4294967295)) ≤ℤ z → z ≤ℤ pos (1025 * 4294967295) → saturate_signed w64 z ≡ z
+pub near_exact : (z : ℤ) → neg_ℤ (pos (1025 * 4294967295)) ≤ℤ z → z ≤ℤ pos (1025 * 4294967295) → saturate_signed w64 z ≡ z
 near_exact z low high = within_64 z (omega (arith, ints, low)) (omega (arith, ints, high))
 
 -- a coupling that acts
-summed_set : (own : Node) (all left : List Coupling) (k : Coupling) (v n : ℕ) (d : Delays) → n < 1024 → v < 4096 → (k.victim < 4096 → AmountsSmall k) →
+summed_set : (room : ℕ) (own : Node) (all left : List Coupling) (k : Coupling) (v n : ℕ) (d : Delays) → n < 1024 → v < room → (k.victim < room → AmountsSmall k) →
     Summed own all (k ∷ left) v n d → Summed own all left v (n + 1) (disturbed_at k v d)
-summed_set own all left k v n d few lt fits h =
+summed_set room own all left k v n d few lt fits h =
     elim (cases_eq k.victim v) [
       | inl e ↦
           let small : AmountsSmall k = fits (omega (arith, e, lt)) in
@@ -186,12 +186,12 @@ chosen_past : (S : ℕ → Bool) (i : ℕ) (ks : List Coupling) → i < length k
 chosen_past S i ks lt clear = rw (drop_more ks i no_coupling lt, clear, add-one) refl
 
 -- one more coupling of a list, which is chosen and acts
-pub summed_more : (S : ℕ → Bool) (ks : List Coupling) (own : Node) (v i : ℕ) (d : Delays) → length ks ≤ 1024 → i < length ks → v < 4096 → S i ≡ true →
-    ((get_or ks i no_coupling).victim < 4096 → AmountsSmall (get_or ks i no_coupling)) →
+pub summed_more : (room : ℕ) (S : ℕ → Bool) (ks : List Coupling) (own : Node) (v i : ℕ) (d : Delays) → length ks ≤ 1024 → i < length ks → v < room → S i ≡ true →
+    ((get_or ks i no_coupling).victim < room → AmountsSmall (get_or ks i no_coupling)) →
     Summed own (chosen S ks) (chosen_from S i (drop i ks)) v i d →
     Summed own (chosen S ks) (chosen_from S (i + 1) (drop (i + 1) ks)) v (i + 1) (disturbed_at (get_or ks i no_coupling) v d)
-summed_more S ks own v i d few lt lt' set small h =
-    summed_set own (chosen S ks) (chosen_from S (i + 1) (drop (i + 1) ks)) (get_or ks i no_coupling) v i d (omega (arith, few, lt)) lt' small (rw (chosen_next S i ks lt set) at h)
+summed_more room S ks own v i d few lt lt' set small h =
+    summed_set room own (chosen S ks) (chosen_from S (i + 1) (drop (i + 1) ks)) (get_or ks i no_coupling) v i d (omega (arith, few, lt)) lt' small (rw (chosen_next S i ks lt set) at h)
 
 -- one more, which is not chosen
 pub summed_past : (S : ℕ → Bool) (ks : List Coupling) (own : Node) (v i : ℕ) (d : Delays) → i < length ks → S i ≡ false →
@@ -200,7 +200,7 @@ pub summed_past : (S : ℕ → Bool) (ks : List Coupling) (own : Node) (v i : �
 summed_past S ks own v i d lt clear h = summed_clear own (chosen S ks) (chosen_from S (i + 1) (drop (i + 1) ks)) v i d (rw (chosen_past S i ks lt clear) at h)
 
 -- delays are the same if they are so in both figures
-same_delays : (d e : Delays) → d.least ≡ e.least → d.greatest ≡ e.greatest → d ≡ e
+pub same_delays : (d e : Delays) → d.least ≡ e.least → d.greatest ≡ e.greatest → d ≡ e
 same_delays d e least greatest =
     let first : d ≡ record { least = e.least; greatest = d.greatest } = ap (λ x. record { least = x; greatest = d.greatest }) least in
     first ∙ ap (λ x. record { least = e.least; greatest = x }) greatest

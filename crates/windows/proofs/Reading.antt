@@ -60,7 +60,7 @@ module _ (t : Table) (S : ℕ → Bool) (starts column : ℕ → Arrival) (found
   left_without v NoEnd h e = h
 
   -- a node whose paths have a greatest figure, or that has none, is not without an end
-  has_end : (v : ℕ) (a : Arrival) → IsLatest {n = network t.nodes} {v = v} (late t S) every a → (a ≡ NoEnd → ⊥) → HasNoEnd t S v → ⊥
+  pub has_end : (v : ℕ) (a : Arrival) → IsLatest {n = network t.nodes} {v = v} (late t S) every a → (a ≡ NoEnd → ⊥) → HasNoEnd t S v → ⊥
   has_end v NoPath h e none = let r = none (pos 0) in h r.0 refl
   has_end v (At f) h e none = let r = none f in let most = h.most r.0 refl in omega (arith, ints, most, r.2)
   has_end v NoEnd h e none = e refl

@@ -5,7 +5,7 @@ use Rattle.paths.specs.Networks.{Network, Sound}
 use Rattle.paths.specs.Kinds.{Kind}
 use Rattle.paths.specs.Sweeps.{Course, Swept}
 use Rattle.paths.specs.Kinds.{Restarts}
-use Rattle.rings.specs.Settling.{next_start, Restarted, unswept, after_sweep, Settled}
+use Rattle.rings.specs.Settling.{next_start, Restarted, unswept, after_sweep}
 use Rattle.windows.specs.Seen.{figure_at}
 use Rattle.windows.specs.Rings.{PassedOn, Started}
 
@@ -88,15 +88,3 @@ module _ {F S : Type 0} (kind : Kind F S) (n : Network) (course : Course F S) (r
   -- the starts before the first sweep
   pub before_sweeps : (old new : List F) → Sound n → Started kind.no_path first n.size old new → Restarted kind n course r limit first 0 (figure_at kind.no_path new)
   before_sweeps old new sound o = unswept (λ v l. o.opens v (sound.origins v (sound.latches v l)))
-
-  -- a sweep after which no latch climbs is the last
-  pub at_rest : (made : ℕ) (column old new : List F) (climbs : Bool) → climbs ≡ false → Sound n → Restarted kind n course r limit first made (figure_at kind.no_path old) →
-      Swept kind n course (figure_at kind.no_path old) (figure_at kind.no_path column) → PassedOn kind.no_path r n made limit 0 n.size column old new climbs →
-      Settled kind n course r limit first made (figure_at kind.no_path new) (figure_at kind.no_path column)
-  at_rest made column old new climbs e sound before swept p =
-      rw (p.kept e)
-      (record {
-        restarted = before;
-        swept = swept;
-        still = λ v l. p.none e v (omega arith) (sound.origins v (sound.latches v l)) l;
-      })

@@ -106,7 +106,7 @@ module _ {F S : Type 0} (kind : Kind F S) (n : Network) (course : Course F S) (s
         }
 
 -- a node of another block stands apart from those of a block
-apart_in_block : (size b v : ℕ) → (block_of v ≡ b → ⊥) → (v < nodes_before size b) ⊎ (nodes_before size (b + 1) ≤ v)
+pub apart_in_block : (size b v : ℕ) → (block_of v ≡ b → ⊥) → (v < nodes_before size b) ⊎ (nodes_before size (b + 1) ≤ v)
 apart_in_block size b v ne =
     ⊎_elim
     (λ (l : v < nodes_before size b). inl l)
@@ -192,8 +192,10 @@ module _ {F S : Type 0} (kind : Kind F S) (n : Network) (course : Course F S) (s
   others_changed {was} {stale} {stale'} {old} {column} {column'} leads b few all f busy filled woken =
       let led : (k v : ℕ) → k < n.size → v < n.size → Connected n k v → block_of k ≡ b → has_block stale' (block_of v) ≡ true =
       λ k v lk lv c e.
-      let l : has_block (led_from leads b) (block_of v) ≡ true = rw e at (all k v c (omega arith) (omega arith)) in
-      woken (block_of v) ∙ or_led (has_block stale (block_of v)) (has_block (led_from leads b) (block_of v)) l in
+      ⊎_elim
+      (λ (behind : (block_of k ≡ block_of v) × (k < v)). woken (block_of v) ∙ rw (sym behind.0, e, busy) refl)
+      (λ (l : has_block (led_from leads (block_of k)) (block_of v) ≡ true). woken (block_of v) ∙ or_led (has_block stale (block_of v)) (has_block (led_from leads b) (block_of v)) (rw e at l))
+      (all k v c (omega arith) (omega arith)) in
       others_filled b f busy filled
       (λ a h. woken a ∙ rw h refl)
       (λ k v lk lv c e h. absurd (true≢false (sym (led k v lk lv c e) ∙ h)))
@@ -240,19 +242,19 @@ module _ {F S : Type 0} (kind : Kind F S) (n : Network) (course : Course F S) (s
       }
 
   -- the blocks up to the next stale one are passed over, in the first turn
-  pub others_passed : {was stale : Blocks} {old column : List F} (from : ℕ) (o : Option ℕ) → IsNext stale from o → Filling (λ v. (n.is_latch v ≡ false) × (block_of v < from)) was stale old column →
-      Filling (λ v. (n.is_latch v ≡ false) × (block_of v < reached o)) was stale old column
-  others_passed {was} {stale} from o next f =
+  pub others_passed : {was stale : Blocks} {old column : List F} (from to : ℕ) (o : Option ℕ) → IsNext stale from to o → Filling (λ v. (n.is_latch v ≡ false) × (block_of v < from)) was stale old column →
+      Filling (λ v. (n.is_latch v ≡ false) × (block_of v < reached to o)) was stale old column
+  others_passed {was} {stale} from to o next f =
       blocks_passed f
-      (λ v d. ⊎_elim (λ (l : block_of v < from). inl (d.0, l)) (λ (h : has_block stale (block_of v) ≡ false). inr h) (passed_next stale from o next (block_of v) d.1))
+      (λ v d. ⊎_elim (λ (l : block_of v < from). inl (d.0, l)) (λ (h : has_block stale (block_of v) ≡ false). inr h) (passed_next stale from to o next (block_of v) d.1))
 
   -- and in the second
-  pub latches_passed : {was stale : Blocks} {old column : List F} (from : ℕ) (o : Option ℕ) → IsNext stale from o → Filling (λ v. (n.is_latch v ≡ false) ⊎ (block_of v < from)) was stale old column →
-      Filling (λ v. (n.is_latch v ≡ false) ⊎ (block_of v < reached o)) was stale old column
-  latches_passed {was} {stale} from o next f =
+  pub latches_passed : {was stale : Blocks} {old column : List F} (from to : ℕ) (o : Option ℕ) → IsNext stale from to o → Filling (λ v. (n.is_latch v ≡ false) ⊎ (block_of v < from)) was stale old column →
+      Filling (λ v. (n.is_latch v ≡ false) ⊎ (block_of v < reached to o)) was stale old column
+  latches_passed {was} {stale} from to o next f =
       blocks_passed f
       (λ v d.
       ⊎_elim
       (λ (l : n.is_latch v ≡ false). inl (inl l))
-      (λ (b : block_of v < reached o). ⊎_elim (λ (l : block_of v < from). inl (inr l)) (λ (h : has_block stale (block_of v) ≡ false). inr h) (passed_next stale from o next (block_of v) b))
+      (λ (b : block_of v < reached to o). ⊎_elim (λ (l : block_of v < from). inl (inr l)) (λ (h : has_block stale (block_of v) ≡ false). inr h) (passed_next stale from to o next (block_of v) b))
       d)

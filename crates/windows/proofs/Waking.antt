@@ -1,12 +1,12 @@
 -- Which blocks are stale between two sweeps.
-use Rattle.std.proofs.Common.{◌≡◌, ℕ, ◌<◌, ◌≤◌, Bool, true, false, List, sym, refl, ◌∙◌, ⊎_elim, arith}
+use Rattle.std.proofs.Common.{◌≡◌, ℕ, ◌<◌, ◌≤◌, Bool, true, false, List, ap, sym, refl, ◌∙◌, ⊎_elim, arith}
 use Rattle.std.proofs.lemmas.Bool.{cases_Bool, true≢false}
 use Rattle.paths.specs.Networks.{Network, Connected, Sound}
 use Rattle.paths.specs.Kinds.{Kind, Restarts}
 use Rattle.paths.specs.Sweeps.{Course, leaving, Swept}
 use Rattle.windows.specs.declared.blocks.Blocks.{Blocks}
 use Rattle.windows.specs.declared.blocks.Leads.{Leads}
-use Rattle.windows.specs.Blocks.{block_of, has_block, AllLeads, FreshBut, StillBut, KeptBut, ClimbsWake}
+use Rattle.windows.specs.Blocks.{block_of, has_block, led_from, AllLeads, FreshBut, StillBut, KeptBut, ClimbsWake}
 use Rattle.windows.specs.Rings.{PassedOn}
 use Rattle.windows.specs.Seen.{figure_at}
 use Rattle.rings.specs.Settling.{next_start}
@@ -42,7 +42,13 @@ module _ {F : Type 0} (no_path : F) (r : Restarts F) (n : Network) (made limit :
       let here : k < n.size = (sound.sources k v d).0 in
       ⊎_elim
       (λ (c : r.climbs (figure_at no_path old k) (figure_at no_path column k) ≡ true).
-      absurd (true≢false (sym ((w.awake k here l c).led (block_of v) (all k v d (omega arith) (omega arith))) ∙ h)))
+      let awake = w.awake k here l c in
+      let woken : has_block stale (block_of v) ≡ true =
+      ⊎_elim
+      (λ (behind : (block_of k ≡ block_of v) × (k < v)). ap (has_block stale) (sym behind.0) ∙ awake.itself)
+      (λ (led : has_block (led_from leads (block_of k)) (block_of v) ≡ true). awake.led (block_of v) led)
+      (all k v d (omega arith) (omega arith)) in
+      absurd (true≢false (sym woken ∙ h)))
       (λ (c : r.climbs (figure_at no_path old k) (figure_at no_path column k) ≡ false). sym (as_before k here l c))
       (cases_Bool (r.climbs (figure_at no_path old k) (figure_at no_path column k))) in
       let left : (k v : ℕ) → v < n.size → Connected n k v → has_block stale (block_of v) ≡ false → leaving n (figure_at no_path old) (figure_at no_path column) k ≡ leaving n (figure_at no_path new) (figure_at no_path column) k =
@@ -67,9 +73,9 @@ still_kept no_path r n starts was stale old new s k =
           (cases_Bool (has_block was (block_of v)));
     }
 
-module _ (stale : Blocks) (all : (b : ℕ) → b < 128 → has_block stale b ≡ true) (n : Network) (few : n.size ≤ 4096) where
+module _ (stale : Blocks) (all : (b : ℕ) → b < 256 → has_block stale b ≡ true) (n : Network) (few : n.size ≤ 4096) where
   -- where every block is stale, every node is in one
-  in_stale : (v : ℕ) → v < n.size → has_block stale (block_of v) ≡ false → ⊥
+  pub in_stale : (v : ℕ) → v < n.size → has_block stale (block_of v) ≡ false → ⊥
   in_stale v lt h = true≢false (sym (all (block_of v) (omega arith)) ∙ h)
 
   -- so nothing is said of any node, whatever the column holds

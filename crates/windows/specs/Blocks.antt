@@ -1,5 +1,5 @@
 -- Nodes in blocks, which blocks lead to which, and blocks that are stale: those in which a figure may not be what comes to its node.
-use Rattle.std.specs.Prelude.{◌≡◌, ℕ, ◌*◌, ◌/◌, ◌<◌, ◌≤◌, min, Bool, true, false, not, ◌⊎◌, List, [], length, drop, Option, Some, None, slice_index_or}
+use Rattle.std.specs.Prelude.{◌≡◌, ℕ, ◌+◌, ◌*◌, ◌/◌, ◌<◌, ◌≤◌, min, Bool, true, false, not, ◌⊎◌, List, [], length, drop, Option, Some, None, slice_index_or}
 use Rattle.paths.specs.Networks.{Network, Connected, Sound}
 use Rattle.paths.specs.Kinds.{Kind, Restarts}
 use Rattle.paths.specs.Sweeps.{Course, arrival}
@@ -9,28 +9,36 @@ use Rattle.windows.specs.Seen.{figure_at}
 
 -- the block of a node
 abbrev pub block_of : ℕ → ℕ
-block_of v = v / 32
+block_of v = v / 16
+
+-- how many blocks so many nodes are in
+abbrev pub blocks_of : ℕ → ℕ
+blocks_of count = (count + 15) / 16
 
 -- how many of so many nodes stand in the blocks before one
 abbrev pub nodes_before : ℕ → ℕ → ℕ
-nodes_before count b = min count (32 * b)
+nodes_before count b = min count (16 * b)
 
 -- a set of blocks has a block
 abbrev pub has_block : Blocks → ℕ → Bool
 has_block blocks b = slice_index_or blocks.members b false
 
--- the first block of a set from one on, or none
-abbrev pub IsNext : Blocks → ℕ → Option ℕ → Type 0
-IsNext blocks from None = (b : ℕ) → from ≤ b → has_block blocks b ≡ false
-IsNext blocks from (Some next) = (from ≤ next) × (next < 128) × (has_block blocks next ≡ true) × ((b : ℕ) → from ≤ b → b < next → has_block blocks b ≡ false)
+-- the first block of a set from one on and below another, or none
+abbrev pub IsNext : Blocks → ℕ → ℕ → Option ℕ → Type 0
+IsNext blocks from to None = (b : ℕ) → from ≤ b → b < to → has_block blocks b ≡ false
+IsNext blocks from to (Some next) = (from ≤ next) × (next < to) × (has_block blocks next ≡ true) × ((b : ℕ) → from ≤ b → b < next → has_block blocks b ≡ false)
 
 -- the blocks that a block leads to
 abbrev pub led_from : Leads → ℕ → Blocks
 led_from leads a = slice_index_or leads.to a (record { members = [] })
 
--- the block of a source leads to that of each node that is connected from it
+-- the block of a source leads to that of each node that is connected from it, but that a source need not lead to a node behind it in its own block
 abbrev pub AllLeads : Network → Leads → Type 0
-AllLeads n leads = (k v : ℕ) → Connected n k v → k < 4096 → v < 4096 → has_block (led_from leads (block_of k)) (block_of v) ≡ true
+AllLeads n leads = (k v : ℕ) → Connected n k v → k < 4096 → v < 4096 → ((block_of k ≡ block_of v) × (k < v)) ⊎ (has_block (led_from leads (block_of k)) (block_of v) ≡ true)
+
+-- the same, said so that a struct can keep it: there is no more than one proof
+abbrev pub LeadsKept : Network → Leads → Type 0
+LeadsKept n leads = (k v : ℕ) → Connected n k v → k < 4096 → v < 4096 → (block_of k ≡ block_of v → k < v → ⊥) → has_block (led_from leads (block_of k)) (block_of v) ≡ true
 
 -- a node at which stands what comes to it
 abbrev pub IsFresh : {F S : Type 0} → Kind F S → Network → Course F S → (ℕ → F) → (ℕ → F) → ℕ → Type 0
@@ -44,7 +52,7 @@ pub record FreshBut {F S : Type 0} (kind : Kind F S) (n : Network) (course : Cou
 pub record StillBut {F : Type 0} (r : Restarts F) (n : Network) (starts column : ℕ → F) (stale : Blocks) : Type 0 where
   pub still : (v : ℕ) → v < n.size → n.is_latch v ≡ true → has_block stale (block_of v) ≡ false → r.climbs (starts v) (column v) ≡ false
 
--- no block is stale no more, and every figure is as before, but for those of stale blocks
+-- what was stale is stale, and every figure is as before, but for those of stale blocks
 pub record KeptBut {F : Type 0} (no_path : F) (was stale : Blocks) (old new : List F) : Type 0 where
   pub grows : (b : ℕ) → has_block was b ≡ true → has_block stale b ≡ true
   pub kept : (v : ℕ) → has_block stale (block_of v) ≡ false → figure_at no_path new v ≡ figure_at no_path old v

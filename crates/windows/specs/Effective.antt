@@ -1,7 +1,8 @@
 -- What couplings do to the delays that are kept for each node, and which couplings a flag table sets.
-use Rattle.std.specs.Prelude.{ℕ, ◌≤◌, Bool, true, false, cond, List, pos, ◌+ℤ◌, ◌-ℤ◌, ◌≤ℤ◌, slice_index_or, ◌==◌}
+use Rattle.std.specs.Prelude.{ℕ, ◌≤◌, Bool, true, false, cond, List, pos, ◌+ℤ◌, ◌-ℤ◌, ◌≤ℤ◌, slice_index_or, replicate, ◌==◌}
 use Rattle.std.specs.Int.{saturate_signed, w64}
 use Rattle.design.specs.declared.nodes.Node.{Node}
+use Rattle.design.specs.declared.nodes.Node.TheVariants.{Free}
 use Rattle.design.specs.declared.couplings.Coupling.{Coupling}
 use Rattle.design.specs.Rows.{least_delay}
 use Rattle.kinds.specs.declared.timings.Delays.{Delays}
@@ -21,6 +22,10 @@ is_flagged flags k = is_set (slice_index_or flags k Clear)
 -- the delays of a row by itself
 abbrev pub own_delays : Node → Delays
 own_delays node = record { least = pos (least_delay node); greatest = pos (own_greatest node) }
+
+-- so many places without delays, which are those of a free row
+abbrev pub no_delays : ℕ → List Delays
+no_delays room = replicate room (own_delays Free)
 
 -- delays no greater than 32 bits hold, as those of a row are
 abbrev pub IsSmall : Delays → Type 0

@@ -35,7 +35,7 @@ pub fn latest_arrivals<S: Stage>(
     ensures { LatestAnswered (open_table S.state book.now) (loan_of schedule.now nodes.now couplings.now) flags.now column.old column.new result }
 {
     let rows = rows_of(book, schedule, nodes, couplings, flags.len(), column.len())?;
-    let delays = Effective::under(rows.nodes, rows.couplings, flags);
+    let delays = Effective::<MOST_NODES>::under(rows.nodes, rows.couplings, flags);
     let leads = Leads::of(rows.nodes);
     let circuit = rows.circuit(&delays, &leads);
     let mut starts = [Arrival::NoPath; MOST_NODES];
@@ -56,7 +56,7 @@ pub fn earliest_arrivals<S: Stage>(
     ensures { EarliestAnswered (open_table S.state book.now) (loan_of schedule.now nodes.now couplings.now) flags.now column.old column.new result }
 {
     let rows = rows_of(book, schedule, nodes, couplings, flags.len(), column.len())?;
-    let delays = Effective::under(rows.nodes, rows.couplings, flags);
+    let delays = Effective::<MOST_NODES>::under(rows.nodes, rows.couplings, flags);
     let leads = Leads::of(rows.nodes);
     let circuit = rows.circuit(&delays, &leads);
     let mut starts = [Arrival::NoPath; MOST_NODES];
@@ -81,7 +81,7 @@ pub fn windows<S: Stage>(
 {
     let places = windows.len().min(column.len());
     let rows = rows_of(book, schedule, nodes, couplings, flags.len(), places)?;
-    let delays = Effective::under(rows.nodes, rows.couplings, flags);
+    let delays = Effective::<MOST_NODES>::under(rows.nodes, rows.couplings, flags);
     let leads = Leads::of(rows.nodes);
     let circuit = rows.circuit(&delays, &leads);
     let mut starts = [Arrival::NoPath; MOST_NODES];

@@ -1,7 +1,7 @@
 // What a sweep goes over.
 ghost use Rattle.std.specs.Prelude.{◌≡◌, ◌≤◌, length};
 ghost use Rattle.timing.specs.Connections.{row, shift_between, start_at};
-ghost use Rattle.windows.specs.Blocks.{nodes_before};
+ghost use Rattle.windows.specs.Blocks.{blocks_of, nodes_before};
 ghost use Rattle.windows.specs.Delays.{delays_at};
 
 use super::blocks::{BLOCK, Leads};
@@ -54,9 +54,18 @@ impl<'a> Circuit<'a> {
         start_at(self.schedule, self.row(k))
     }
 
+    // How many blocks its nodes are in, so that those behind them need not be looked at.
+    pub(crate) fn blocks(&self) -> usize
+        requires { length self.now.nodes.now ≤ 4096 }
+        ensures value { result ≡ blocks_of (length self.now.nodes.now) }
+        ensures few { result ≤ 256 }
+    {
+        (self.nodes.len() + BLOCK - 1) / BLOCK
+    }
+
     // How many nodes stand in the blocks before one.
     pub(crate) fn nodes_before(&self, block: usize) -> usize
-        requires { block ≤ 128 }
+        requires { block ≤ 256 }
         ensures { result ≡ nodes_before (length self.now.nodes.now) block }
     {
         self.nodes.len().min(BLOCK * block)

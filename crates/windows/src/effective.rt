@@ -3,17 +3,17 @@ ghost use Rattle.std.specs.Prelude.{◌≡◌, ℕ, ◌<◌, ◌≤◌, length};
 ghost use Rattle.timing.specs.Connections.{row};
 ghost use Rattle.timing.specs.Delays.{own_greatest, delays_under};
 ghost use Rattle.windows.specs.Delays.{delays_at};
-ghost use Rattle.windows.specs.Effective.{is_flagged, own_delays, IsSmall, AmountsSmall, disturbed, disturbed_at};
+ghost use Rattle.windows.specs.Effective.{is_flagged, own_delays, no_delays, IsSmall, AmountsSmall, disturbed, disturbed_at};
 
 use super::flags::Flag;
 use design::couplings::Coupling;
 use design::nodes::Node;
 use kinds::timings::Delays;
 
-// As many delays as a book takes nodes, in one place of fixed size, so that a sweep reads them at once for each node.
+// The delays of so many nodes, in one place of fixed size, so that a sweep reads them at once for each node.
 #[derive(Drop)]
-pub(crate) struct Effective {
-    places: [Delays; 4096],
+pub(crate) struct Effective<const N: usize> {
+    places: [Delays; N],
 }
 
 // The greatest delay of a row: 0 for an input or a free row, which have none.
@@ -56,28 +56,37 @@ fn is_flagged(flags: &[Flag], k: usize) -> bool
     matches!(flags.get(k), Some(Flag::Set))
 }
 
-impl Effective {
-    // The delays of rows by themselves; rows past the last place are left out.
-    pub(crate) fn own(nodes: &[Node]) -> Effective
-        ensures delays { (v : ℕ) → v < 4096 → delays_at result.places v ≡ own_delays (row nodes.now v) }
-        ensures small { (v : ℕ) → IsSmall (delays_at result.places v) }
+impl<const N: usize> Effective<N> {
+    // No place has delays yet.
+    pub(crate) fn none() -> Effective<N>
+        ensures { result.places ≡ no_delays N }
     {
-        let mut places = [Delays {
-            least: 0,
-            greatest: 0,
-        }; 4096];
+        Effective {
+            places: [Delays {
+                least: 0,
+                greatest: 0,
+            }; N],
+        }
+    }
+
+    // Fills the places with the delays of rows by themselves; rows past the last place are left out. They are filled where
+    // they stand, since it takes long to copy as many as a book may have.
+    pub(crate) fn fill(&mut self, nodes: &[Node])
+        requires { self.old.places ≡ no_delays N }
+        ensures delays { (v : ℕ) → v < N → delays_at self.new.places v ≡ own_delays (row nodes.now v) }
+        ensures small { (v : ℕ) → IsSmall (delays_at self.new.places v) }
+    {
         for (v, node) in nodes.iter().enumerate() {
-            if v < places.len() {
-                places[v] = own_delays(node);
+            if v < self.places.len() {
+                self.places[v] = own_delays(node);
             }
         }
-        Effective { places }
     }
 
     // A coupling acts: its opposing amount goes to the greatest delay of its victim, and its assisting amount off the least.
     pub(crate) fn add(&mut self, coupling: &Coupling)
-        ensures small { coupling.now.victim < 4096 → AmountsSmall coupling.now }
-        ensures delays { (v : ℕ) → v < 4096 → delays_at self.new.places v ≡ disturbed_at coupling.now v (delays_at self.old.places v) }
+        ensures small { coupling.now.victim < N → AmountsSmall coupling.now }
+        ensures delays { (v : ℕ) → v < N → delays_at self.new.places v ≡ disturbed_at coupling.now v (delays_at self.old.places v) }
     {
         let victim = usize::from(coupling.victim);
         if victim < self.places.len() {
@@ -86,10 +95,11 @@ impl Effective {
     }
 
     // The delays of rows under the couplings whose flags are set.
-    pub(crate) fn under(nodes: &[Node], couplings: &[Coupling], flags: &[Flag]) -> Effective
-        ensures { length couplings.now ≤ 1024 → (v : ℕ) → v < 4096 → delays_at result.places v ≡ delays_under nodes.now couplings.now (is_flagged flags.now) v }
+    pub(crate) fn under(nodes: &[Node], couplings: &[Coupling], flags: &[Flag]) -> Effective<N>
+        ensures { length couplings.now ≤ 1024 → (v : ℕ) → v < N → delays_at result.places v ≡ delays_under nodes.now couplings.now (is_flagged flags.now) v }
     {
-        let mut effective = Effective::own(nodes);
+        let mut effective = Effective::none();
+        effective.fill(nodes);
         for (k, coupling) in couplings.iter().enumerate() {
             if is_flagged(flags, k) {
                 effective.add(coupling);
@@ -101,7 +111,7 @@ impl Effective {
     // The delays of all places.
     pub(crate) fn list(&self) -> &[Delays]
         ensures places { result.now ≡ self.now.places }
-        ensures count { length result.now ≡ 4096 }
+        ensures count { length result.now ≡ N }
     {
         &self.places
     }

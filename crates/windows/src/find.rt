@@ -1,13 +1,17 @@
 // The sweeps of the latest and of the earliest kind.
-ghost use Rattle.std.specs.Prelude.{◌≡◌, ◌≤◌, ℕ, Bool, length, drop};
+ghost use Rattle.std.specs.Prelude.{◌≡◌, ◌≤◌, ℕ, Bool, true, false, length, drop};
 ghost use Rattle.design.specs.Table.{Table};
 ghost use Rattle.design.specs.SoFar.{Stands};
 ghost use Rattle.timing.specs.Connections.{network};
 ghost use Rattle.timing.specs.Figures.{late_start, late_gain};
 ghost use Rattle.kinds.specs.declared.arrival.Arrival.TheVariants.{NoPath};
+ghost use Rattle.kinds.specs.Arrivals.{is_later, latest_kind, latest_start, latest_between, earliest_kind, earliest_start, earliest_between};
+ghost use Rattle.paths.specs.Networks.{Sound};
+ghost use Rattle.paths.specs.Sweeps.{Swept};
 ghost use Rattle.rings.specs.Found.{LatestFound};
 ghost use Rattle.windows.specs.Blocks.{AllLeads};
-ghost use Rattle.windows.specs.Seen.{figure_at, network_of};
+ghost use Rattle.windows.specs.Rings.{first_of};
+ghost use Rattle.windows.specs.Seen.{figure_at, network_of, course_of};
 ghost use Rattle.windows.specs.Found.{EndsBy, Shows, MadeSweeps, EarlyFound};
 
 use super::circuit::Circuit;
@@ -29,6 +33,8 @@ pub(crate) fn find_latest(
     requires starts_fit { length circuit.now.nodes.now ≤ length starts.old }
     requires column_fits { length circuit.now.nodes.now ≤ length column.old.figures.now }
     ensures found { (t : Table) (S : ℕ → Bool) → Stands t → Shows t S circuit.now → LatestFound (network t.nodes) (late_start t) (late_gain t S) (figure_at NoPath starts.new) (figure_at NoPath column.new.figures.now) }
+    ensures swept { Sound (network_of circuit.now) → Swept latest_kind (network_of circuit.now) (course_of latest_start latest_between circuit.now) (figure_at NoPath starts.new) (figure_at NoPath column.new.figures.now) }
+    ensures still { Sound (network_of circuit.now) → (v : ℕ) → (network_of circuit.now).is_latch v ≡ true → is_later (figure_at NoPath starts.new v) (figure_at NoPath column.new.figures.now v) ≡ false }
     ensures ends { EndsBy circuit.now.nodes.now starts.new result.ends }
     ensures sweeps { (t : Table) (S : ℕ → Bool) → Stands t → Shows t S circuit.now → MadeSweeps t S column.new.figures.now result.sweeps }
     ensures beyond { drop (length circuit.now.nodes.now) column.new.figures.now ≡ drop (length circuit.now.nodes.now) column.old.figures.now }
@@ -54,6 +60,8 @@ pub(crate) fn find_earliest(
     requires starts_fit { length circuit.now.nodes.now ≤ length starts.old }
     requires column_fits { length circuit.now.nodes.now ≤ length column.old.figures.now }
     ensures found { (t : Table) (S : ℕ → Bool) → Stands t → Shows t S circuit.now → EarlyFound t S column.new.figures.now }
+    ensures swept { Sound (network_of circuit.now) → Swept earliest_kind (network_of circuit.now) (course_of earliest_start earliest_between circuit.now) (figure_at NoPath starts.new) (figure_at NoPath column.new.figures.now) }
+    ensures opens { Sound (network_of circuit.now) → (v : ℕ) → (network_of circuit.now).is_latch v ≡ true → figure_at NoPath starts.new v ≡ first_of earliest_start circuit.now v }
     ensures beyond { drop (length circuit.now.nodes.now) column.new.figures.now ≡ drop (length circuit.now.nodes.now) column.old.figures.now }
     ensures same_slice { column.new.figures.ghost_name ≡ column.old.figures.ghost_name }
     ensures same_length { length column.new.figures.now ≡ length column.old.figures.now }

@@ -4,6 +4,8 @@
 mod blocks;
 mod breaches;
 pub mod calls;
+pub mod carried;
+mod carrying;
 pub mod checked;
 mod circuit;
 mod column;
@@ -13,9 +15,9 @@ mod effective;
 mod find;
 pub mod flags;
 pub mod found;
+mod in_place;
+mod rounds;
 pub mod rows;
 mod settle;
 mod sweep;
-#[cfg(test)]
-mod tests;
 mod write;

@@ -22,7 +22,13 @@ pub struct Rows<'a> {
 
 impl<'a> Rows<'a> {
     // The circuit of the rows with these delays and leads.
-    pub(crate) fn circuit(&self, delays: &'a Effective, leads: &'a Leads) -> Circuit<'a>
+    pub(crate) fn circuit<'b, const N: usize>(
+        &self,
+        delays: &'b Effective<N>,
+        leads: &'b Leads,
+    ) -> Circuit<'b>
+    where
+        'a: 'b,
         ensures { IsCircuit self.now delays.now.places leads.now result }
     {
         Circuit {

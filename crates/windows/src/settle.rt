@@ -45,7 +45,7 @@ fn pass_on_block<K: DelayKind>(
     limit: usize,
     block: usize,
 ) -> bool
-    requires within { block < 128 }
+    requires within { block < 256 }
     requires fits { length circuit.now.nodes.now ≤ length starts.old }
     ensures { PassedOn K.kind.no_path K.restarts (network_of circuit.now) made limit (nodes_before (length circuit.now.nodes.now) block) (nodes_before (length circuit.now.nodes.now) (block + 1)) column.now.figures.now starts.old starts.new result }
 {
@@ -83,14 +83,15 @@ fn pass_on<K: DelayKind>(
 {
     let mut climbs = false;
     let mut woken = Blocks::none();
-    let mut next = stale.next(0);
+    let blocks = circuit.blocks();
+    let mut next = stale.next(0, blocks);
     while let Some(block) = next {
         if pass_on_block::<K>(circuit, column, starts, made, limit, block) {
             climbs = true;
             woken.add(block);
             circuit.leads.wake(block, &mut woken);
         }
-        next = stale.next(block + 1);
+        next = stale.next(block + 1, blocks);
     }
     *stale = woken;
     climbs

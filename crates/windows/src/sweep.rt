@@ -38,13 +38,24 @@ pub(crate) fn leaving<K: DelayKind>(
 }
 
 // The figure that a node has of its own: an input starts with one.
-fn own<K: DelayKind>(circuit: &Circuit<'_>, v: usize) -> K::Figure
+pub(crate) fn own<K: DelayKind>(circuit: &Circuit<'_>, v: usize) -> K::Figure
     ensures { result ≡ own K.kind (network_of circuit.now) (course_of K.starts_with K.between circuit.now) v }
 {
     match circuit.row(v) {
         Node::Input { .. } => K::start(circuit.start(v)),
         _ => K::no_path(),
     }
+}
+
+// The step of a connection.
+pub(crate) fn step_between<K: DelayKind>(circuit: &Circuit<'_>, from: usize, to: usize) -> K::Step
+    ensures { result ≡ (course_of K.starts_with K.between circuit.now).step from to }
+{
+    K::between(
+        circuit.delays(from),
+        circuit.delays(to),
+        circuit.shift(from, to),
+    )
 }
 
 // The figure that comes along a connection.
@@ -57,11 +68,7 @@ fn along<K: DelayKind>(
 ) -> K::Figure
     ensures { result ≡ along K.kind (network_of circuit.now) (course_of K.starts_with K.between circuit.now) (figure_at K.kind.no_path starts.now) (figure_at K.kind.no_path column.now) to from }
 {
-    let step = K::between(
-        circuit.delays(from),
-        circuit.delays(to),
-        circuit.shift(from, to),
-    );
+    let step = step_between::<K>(circuit, from, to);
     K::step(leaving::<K>(circuit, starts, column, from), step)
 }
 
@@ -90,7 +97,7 @@ fn fill_others<K: DelayKind>(
     column: &mut [K::Figure],
     block: usize,
 ) -> bool
-    requires within { block < 128 }
+    requires within { block < 256 }
     requires fits { length circuit.now.nodes.now ≤ length column.old }
     ensures filled { Filled K.kind (network_of circuit.now) (course_of K.starts_with K.between circuit.now) (figure_at K.kind.no_path starts.now) false (nodes_before (length circuit.now.nodes.now) block) (nodes_before (length circuit.now.nodes.now) (block + 1)) column.old column.new }
     ensures same { result ≡ false → column.new ≡ column.old }
@@ -115,7 +122,7 @@ fn fill_latches<K: DelayKind>(
     column: &mut [K::Figure],
     block: usize,
 )
-    requires within { block < 128 }
+    requires within { block < 256 }
     requires fits { length circuit.now.nodes.now ≤ length column.old }
     ensures { Filled K.kind (network_of circuit.now) (course_of K.starts_with K.between circuit.now) (figure_at K.kind.no_path starts.now) true (nodes_before (length circuit.now.nodes.now) block) (nodes_before (length circuit.now.nodes.now) (block + 1)) column.old column.new }
 {
@@ -142,16 +149,17 @@ pub(crate) fn fill<K: DelayKind>(
     ensures kept { KeptBut K.kind.no_path stale.old stale.new column.old column.new }
     ensures beyond { drop (length circuit.now.nodes.now) column.new ≡ drop (length circuit.now.nodes.now) column.old }
 {
-    let mut next = stale.next(0);
+    let blocks = circuit.blocks();
+    let mut next = stale.next(0, blocks);
     while let Some(block) = next {
         if fill_others::<K>(circuit, starts, column, block) {
             circuit.leads.wake(block, stale);
         }
-        next = stale.next(block + 1);
+        next = stale.next(block + 1, blocks);
     }
-    next = stale.next(0);
+    next = stale.next(0, blocks);
     while let Some(block) = next {
         fill_latches::<K>(circuit, starts, column, block);
-        next = stale.next(block + 1);
+        next = stale.next(block + 1, blocks);
     }
 }

@@ -13,7 +13,7 @@ use kinds::late::Latest;
 use timing::windows::Window;
 
 // The tick at which something arrives; 0 where nothing does, as at a row that somebody else wrote.
-fn tick(arrival: Arrival) -> i64
+pub(crate) fn tick(arrival: Arrival) -> i64
     ensures { result ≡ tick_of arrival }
 {
     match arrival {

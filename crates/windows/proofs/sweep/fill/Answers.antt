@@ -10,7 +10,7 @@ pub loop-next-preserved : goal.loop-next-preserved
 loop-next-preserved g c =
     let before = rw c.in-Some.is at c.loop-next.invariant in
     record {
-      filling = others_passed _ _ _ _ _ _ c.next-next-in-Some.ensures
+      filling = others_passed _ _ _ _ _ _ _ c.next-next-in-Some.ensures
           (elim c.if-fill_others.branch [
             | then-fill_others w ↦
                 rw w.stale-is
@@ -20,14 +20,14 @@ loop-next-preserved g c =
                 (others_filled _ _ _ _ _ before.filling before.here.1 c.fill_others.ensures.filled (λ a h. h)
                 (λ k v lk lv d e h. ap (λ column. figure_at g.K.DelayKind.kind.no_path column k) (c.fill_others.ensures.same w.if-fill_others.false)))
           ]);
-      here = here_next _ _ _ c.next-next-in-Some.ensures;
+      here = here_next _ _ _ _ c.next-next-in-Some.ensures;
     }
 
 pub loop-next-2-preserved : goal.loop-next-2-preserved
 loop-next-2-preserved g c =
     let before = rw c.in-Some-next.is at c.loop-next-2.invariant in
     record {
-      filling = latches_passed _ _ _ _ _ _ c.next-next-in-Some-next.ensures
+      filling = latches_passed _ _ _ _ _ _ _ c.next-next-in-Some-next.ensures
           (latches_filled _ _ _ _ _ before.filling before.here.1 c.fill_latches.ensures);
-      here = here_next _ _ _ c.next-next-in-Some-next.ensures;
+      here = here_next _ _ _ _ c.next-next-in-Some-next.ensures;
     }

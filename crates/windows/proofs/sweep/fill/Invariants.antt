@@ -12,13 +12,13 @@ invariant-loop-next g l =
     let n = network_of l.circuit in
     record {
       filling : Filling g.K.DelayKind.kind n (course_of g.K.DelayKind.starts_with g.K.DelayKind.between l.circuit) (figure_at g.K.DelayKind.kind.no_path l.starts)
-          (λ v. (n.is_latch v ≡ false) × (block_of v < reached l.next)) l.fn.stale l.stale l.fn.column l.column;
-      here : IsHere l.stale l.next;
+          (λ v. (n.is_latch v ≡ false) × (block_of v < reached l.blocks l.next)) l.fn.stale l.stale l.fn.column l.column;
+      here : IsHere l.stale l.blocks l.next;
     }
 
 -- the blocks that are left
 abbrev pub decreases-loop-next : goal.decreases-loop-next
-decreases-loop-next g l = 128 - reached l.next
+decreases-loop-next g l = l.blocks - reached l.blocks l.next
 
 -- all nodes that are no latches are done, and the latches of the blocks before the next one
 abbrev pub invariant-loop-next-2 : goal.invariant-loop-next-2
@@ -26,10 +26,10 @@ invariant-loop-next-2 g l =
     let n = network_of l.circuit in
     record {
       filling : Filling g.K.DelayKind.kind n (course_of g.K.DelayKind.starts_with g.K.DelayKind.between l.circuit) (figure_at g.K.DelayKind.kind.no_path l.starts)
-          (λ v. (n.is_latch v ≡ false) ⊎ (block_of v < reached l.next)) l.fn.stale l.stale l.fn.column l.column;
-      here : IsHere l.stale l.next;
+          (λ v. (n.is_latch v ≡ false) ⊎ (block_of v < reached l.blocks l.next)) l.fn.stale l.stale l.fn.column l.column;
+      here : IsHere l.stale l.blocks l.next;
     }
 
 -- the blocks that are left
 abbrev pub decreases-loop-next-2 : goal.decreases-loop-next-2
-decreases-loop-next-2 g l = 128 - reached l.next
+decreases-loop-next-2 g l = l.blocks - reached l.blocks l.next

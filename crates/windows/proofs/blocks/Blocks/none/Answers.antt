@@ -3,4 +3,4 @@ use Rattle.windows.proofs.Blocking.{none_has}
 use Rattle.windows.proofs.blocks.Blocks.none.Goals as goal
 
 pub returns : goal.returns
-returns c = none_has 128
+returns c = none_has 256

@@ -3,8 +3,8 @@ use Rattle.std.proofs.Common.{rules, arith, ◌<◌, length}
 use Rattle.windows.proofs.Disturbing.{disturbed_victim, disturbed_beyond}
 use Rattle.windows.proofs.effective.Effective.add.Goals as goal
 
-pub returns-then-victim-lt4096 : goal.returns-then-victim-lt4096
-returns-then-victim-lt4096 c =
+pub returns-then-victim : goal.returns-then-victim
+returns-then-victim g c =
     record {
       small = λ lt. c.disturbed.ensures.small;
       delays = λ v lt.
@@ -12,9 +12,9 @@ returns-then-victim-lt4096 c =
           rw (c.disturbed.ensures.delays, c.from-victim.ensures) (disturbed_victim c.args.self.now.places c.args.coupling.now within v);
     }
 
-pub returns-else-victim-lt4096 : goal.returns-else-victim-lt4096
-returns-else-victim-lt4096 c =
+pub returns-else-victim : goal.returns-else-victim
+returns-else-victim g c =
     record {
       small = λ lt. absurd (omega arith);
-      delays = disturbed_beyond c.args.self.now.places c.args.coupling.now (omega arith);
+      delays = disturbed_beyond g.row.N c.args.self.now.places c.args.coupling.now (omega arith);
     }

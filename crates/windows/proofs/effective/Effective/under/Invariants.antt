@@ -9,6 +9,6 @@ use Rattle.windows.proofs.effective.Effective.under.Given as goal
 
 -- the couplings so far have acted
 abbrev pub invariant-loop-k : goal.invariant-loop-k
-invariant-loop-k l =
-    length l.couplings ≤ 1024 → (v : ℕ) → v < 4096 →
+invariant-loop-k g l =
+    length l.couplings ≤ 1024 → (v : ℕ) → v < g.row.N →
     Summed (row l.nodes v) (chosen (is_flagged l.flags) l.couplings) (chosen_from (is_flagged l.flags) l.k (drop l.k l.couplings)) v l.k (delays_at l.effective.places v)
