@@ -1,13 +1,19 @@
 -- Flags set one after another.
-use Rattle.std.proofs.Common.{◌≡◌, ℕ, suc, ◌+◌, ◌<◌, ◌≤◌, Bool, true, false, cond, ◌||◌, List, length, drop, slice_index_or, refl, ap, ◌∙◌, ⊎_elim, arith, add-one}
+use Rattle.std.proofs.Common.{◌≡◌, ℕ, suc, ◌+◌, ◌<◌, ◌≤◌, Bool, true, false, cond, ◌||◌, List, length, drop, slice_index_or, slice_set, refl, ap, ◌∙◌, ⊎_elim, arith, add-one}
 use Rattle.std.proofs.lemmas.Bool.{cases_eq}
+use Rattle.std.proofs.lemmas.Grind.{common_steps}
 use Rattle.closing.specs.Sets.{count}
 use Rattle.closing.proofs.Counts.{count-same}
 use Rattle.design.specs.declared.couplings.Coupling.{Coupling}
 use Rattle.design.specs.Rows.{no_coupling}
 use Rattle.windows.specs.declared.flags.Flag.{Flag}
+use Rattle.windows.specs.declared.flags.Flag.TheVariants.{Set}
 use Rattle.windows.specs.Effective.{is_flagged}
 use Rattle.verifying.specs.Asking.{FlaggedOne, FlaggedSeen}
+
+-- a clear flag that is set where something is seen
+pub flagged_one : (seen : Bool) (k : ℕ) (flags : List Flag) → k < length flags → is_flagged flags k ≡ false → seen ≡ true → FlaggedOne seen k flags (slice_set flags k Set) 1
+flagged_one seen k flags lt clear seen_here = grind (arith, common_steps)
 
 -- The first k couplings are looked at, and the flags of the others are as they were.
 pub record Flagging (seen : Coupling → Bool) (ks : List Coupling) (old new : List Flag) (k fresh : ℕ) : Type 0 where
@@ -34,6 +40,10 @@ one_at_most : (a b : Bool) → cond a 0 (cond b 1 0) ≤ 1
 one_at_most true b = omega arith
 one_at_most false true = omega arith
 one_at_most false false = omega arith
+
+-- and so no more of one coupling
+pub fresh_one : {seen : Bool} {k : ℕ} {old new : List Flag} {fresh : ℕ} → FlaggedOne seen k old new fresh → fresh ≤ 1
+fresh_one {seen} {k} {old} {new} {fresh} one = omega (arith, one.more, one_at_most (is_flagged old k) seen)
 
 -- one coupling more
 pub flagging_more : (seen : Coupling → Bool) (ks : List Coupling) (old now new : List Flag) (k fresh more : ℕ) → k < length ks →

@@ -16,7 +16,6 @@ use Rattle.judging.specs.Couplings.{coupling_at, IsSeen, system_of}
 use Rattle.judging.proofs.Instance.{monotone, bounded_alike}
 use Rattle.windows.specs.declared.flags.Flag.{Flag}
 use Rattle.windows.specs.Effective.{is_flagged}
-use Rattle.windows.specs.Written.{window_at}
 use Rattle.verifying.specs.Asking.{seen_in, FlaggedSeen}
 
 -- where one more flag makes the greater count of what was no greater, it is set there and not here
@@ -35,18 +34,18 @@ one_more (suc n) S T more =
     (λ (here : count n T ≤ count n S). let apart = counted_more (S n) (T n) (count n S) (count n T) here more in (n, omega arith, apart.0, apart.1))
     (cases_lt (count n S) (count n T))
 
--- where a table holds the windows of all nodes, all windows have an end
-pub all_end : (t : Table) (S : Flags) (windows : List Window) → ((v : ℕ) → v < length t.nodes → IsWindow t S v (window_at windows v)) → AllEnd t S
-all_end t S windows found v lt = (window_at windows v, found v lt)
+-- where the windows of all nodes are found, all windows have an end
+pub all_end : (t : Table) (S : Flags) (windows : ℕ → Window) → ((v : ℕ) → v < length t.nodes → IsWindow t S v (windows v)) → AllEnd t S
+all_end t S windows found v lt = (windows v, found v lt)
 
-module _ (t : Table) (sees : Question → Bool) (stands : Stands t) (windows : List Window) (old new : List Flag) (fresh : ℕ) (found : (v : ℕ) → v < length t.nodes → IsWindow t (is_flagged old) v (window_at windows v)) (asked : FlaggedSeen (seen_in t.clock t.nodes windows sees) t.couplings old new fresh) where
-  -- a coupling that is seen under the set is one that the rule sees when it is asked with the windows in the table
+module _ (t : Table) (sees : Question → Bool) (stands : Stands t) (windows : ℕ → Window) (old new : List Flag) (fresh : ℕ) (found : (v : ℕ) → v < length t.nodes → IsWindow t (is_flagged old) v (windows v)) (asked : FlaggedSeen (seen_in t.clock t.nodes windows sees) t.couplings old new fresh) where
+  -- a coupling that is seen under the set is one that the rule sees when it is asked with the windows that were found
   asked_seen : (c : ℕ) → c < length t.couplings → IsSeen t sees (is_flagged old) c → seen_in t.clock t.nodes windows sees (coupling_at t c) ≡ true
   asked_seen c lt seen =
       let k = coupling_at t c in
       let pair = stands.pairs c lt in
-      let victim : seen.0 ≡ window_at windows k.victim = windows_are_one t (is_flagged old) k.victim seen.0 (window_at windows k.victim) seen.2 (found k.victim pair.0) in
-      let aggressor : seen.1 ≡ window_at windows k.aggressor = windows_are_one t (is_flagged old) k.aggressor seen.1 (window_at windows k.aggressor) seen.3 (found k.aggressor pair.1) in
+      let victim : seen.0 ≡ windows k.victim = windows_are_one t (is_flagged old) k.victim seen.0 (windows k.victim) seen.2 (found k.victim pair.0) in
+      let aggressor : seen.1 ≡ windows k.aggressor = windows_are_one t (is_flagged old) k.aggressor seen.1 (windows k.aggressor) seen.3 (found k.aggressor pair.1) in
       rw (victim, aggressor) at seen.4
 
   -- and a coupling that the rule sees then is seen under the set
@@ -54,7 +53,7 @@ module _ (t : Table) (sees : Question → Bool) (stands : Stands t) (windows : L
   seen_asked c lt seen =
       let k = coupling_at t c in
       let pair = stands.pairs c lt in
-      (window_at windows k.victim, window_at windows k.aggressor, found k.victim pair.0, found k.aggressor pair.1, seen)
+      (windows k.victim, windows k.aggressor, found k.victim pair.0, found k.aggressor pair.1, seen)
 
   -- flags that are set stay
   keeps : Within (length t.couplings) (is_flagged old) (is_flagged new)
@@ -109,7 +108,7 @@ begun_none t sees stands lawful flags clear =
     }
 
 -- one round more
-pub begun_more : (t : Table) (sees : Question → Bool) → Stands t → (windows : List Window) (old new : List Flag) (made fresh : ℕ) → ((v : ℕ) → v < length t.nodes → IsWindow t (is_flagged old) v (window_at windows v)) → FlaggedSeen (seen_in t.clock t.nodes windows sees) t.couplings old new fresh → 0 < fresh → Begun t sees old made → Begun t sees new (made + 1)
+pub begun_more : (t : Table) (sees : Question → Bool) → Stands t → (windows : ℕ → Window) (old new : List Flag) (made fresh : ℕ) → ((v : ℕ) → v < length t.nodes → IsWindow t (is_flagged old) v (windows v)) → FlaggedSeen (seen_in t.clock t.nodes windows sees) t.couplings old new fresh → 0 < fresh → Begun t sees old made → Begun t sees new (made + 1)
 begun_more t sees stands windows old new made fresh found asked more begun =
     let one = some_fresh t sees stands windows old new fresh found asked more in
     record {

@@ -7,7 +7,7 @@ use Rattle.closing.proofs.Runs.{same_within, same_sym}
 use Rattle.design.specs.Table.{Table}
 use Rattle.design.specs.SoFar.{Stands}
 use Rattle.timing.specs.declared.windows.Window.{Window}
-use Rattle.timing.specs.Windows.{IsLate, IsEarly}
+use Rattle.timing.specs.Windows.{IsWindow, IsLate, IsEarly}
 use Rattle.timing.specs.Breaches.{Lowest, EndlessLatch, LateBy, EarlyBy}
 use Rattle.timing.proofs.Grow.{late_grows, early_grows, window_same}
 use Rattle.rules.specs.Questions.{Question, Lawful}
@@ -20,7 +20,7 @@ use Rattle.judging.proofs.Instance.{endless_grows, lateness_grows, earliness_gro
 use Rattle.judging.proofs.Meaning.{verdicts_are_right}
 use Rattle.windows.specs.declared.flags.Flag.{Flag}
 use Rattle.windows.specs.declared.checked.Breach.{Breach}
-use Rattle.windows.specs.declared.checked.Checked.TheVariants.{Ended, NoEnd}
+use Rattle.windows.specs.declared.checked.Checked.TheVariants.{Ended}
 use Rattle.windows.specs.Effective.{is_flagged}
 use Rattle.windows.specs.Written.{window_at}
 use Rattle.windows.specs.Answers.{LateSaid, EarlySaid, WindowsFound}
@@ -120,19 +120,19 @@ module _ (t : Table) (sees : Question → Bool) (stands : Stands t) (lawful : La
       (whole, verdicts_are_right t sees j (is_flagged final) (window_at windows) stands lawful whole)
 
   -- where a window has no end the last round is endless
-  pub judged_endless : (flags : List Flag) (windows found : List Window) (made latch : ℕ) → Begun t sees flags made → WindowsFound t (is_flagged flags) found (NoEnd latch) →
+  pub judged_endless : (flags : List Flag) (windows : List Window) (made latch : ℕ) → Begun t sees flags made → Lowest t (EndlessLatch t (is_flagged flags)) latch →
       j.verdict ≡ Gain latch → j.rounds ≡ made + 1 → j.flags ≡ count (length t.couplings) (is_flagged flags) → JudgedRight t sees j flags windows
-  judged_endless flags windows found made latch begun endless_at verdict rounds counted =
+  judged_endless flags windows made latch begun endless_at verdict rounds counted =
       judged flags flags windows made (without_end (is_flagged flags)) begun (endless (latch, endless_at.0, endless_at.1.1)) refl (λ c lt. refl) rounds counted (rw verdict endless_at)
 
   -- where all windows have an end and no flag is set anew it is at rest
-  pub judged_at_rest : (flags final : List Flag) (windows found : List Window) (made fresh : ℕ) (late early : Option Breach) → Begun t sees flags made → WindowsFound t (is_flagged flags) found (Ended late early) →
-      FlaggedSeen (seen_in t.clock t.nodes found sees) t.couplings flags final fresh → fresh ≡ 0 → ((v : ℕ) → v < length t.nodes → window_at windows v ≡ window_at found v) →
+  pub judged_at_rest : (flags final : List Flag) (windows : List Window) (found : ℕ → Window) (made fresh : ℕ) (late early : Option Breach) → Begun t sees flags made → ((v : ℕ) → v < length t.nodes → IsWindow t (is_flagged flags) v (found v)) →
+      FlaggedSeen (seen_in t.clock t.nodes found sees) t.couplings flags final fresh → fresh ≡ 0 → WindowsFound t (is_flagged flags) windows (Ended late early) →
       j.verdict ≡ verdict_of (Ended late early) → j.rounds ≡ made + 1 → j.flags ≡ count (length t.couplings) (is_flagged final) → JudgedRight t sees j final windows
-  judged_at_rest flags final windows found made fresh late early begun ended asked none written verdict rounds counted =
+  judged_at_rest flags final windows found made fresh late early begun ends asked none written verdict rounds counted =
       judged flags final windows made (settled (is_flagged flags)) begun
-      (at_rest (all_end t (is_flagged flags) found ended.0) (none_fresh t sees stands found flags final fresh ended.0 asked none))
+      (at_rest (all_end t (is_flagged flags) found ends) (none_fresh t sees stands found flags final fresh ends asked none))
       refl
-      (same_flags t sees stands found flags final fresh ended.0 asked none)
+      (same_flags t sees stands found flags final fresh ends asked none)
       rounds counted
-      (rw verdict (verdict_found t (is_flagged flags) late early ended.1 ended.2), λ v lt. rw (written v lt) (ended.0 v lt))
+      (rw verdict (verdict_found t (is_flagged flags) late early written.1 written.2), written.0)

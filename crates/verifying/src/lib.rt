@@ -2,7 +2,5 @@
 #![tactic(auto)]
 
 mod asking;
-#[cfg(test)]
-mod tests;
 mod verdicts;
 pub mod verify;

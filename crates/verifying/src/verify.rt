@@ -1,8 +1,7 @@
 // The call that judges a sealed table.
 ghost use Rattle.std.specs.Prelude.{◌≤◌, length};
 ghost use Rattle.states.specs.Views.{loan_of, sealed_table};
-ghost use Rattle.verifying.specs.Found.{WindowsShown};
-ghost use Rattle.verifying.specs.Answers.{VerifyAnswered};
+ghost use Rattle.verifying.specs.Answers.{JudgeAnswered, VerifyAnswered};
 
 use super::asking::{clear, flag_seen};
 use super::verdicts::verdict_of;
@@ -14,27 +13,70 @@ use refusals::Refusal;
 use rules::CouplingRule;
 use schedule::Schedule;
 use states::Sealed;
-use states::counts::MOST_NODES;
 use timing::windows::Window;
-use windows::calls::windows as windows_under;
+use windows::carried::Carried;
 use windows::checked::Checked;
 use windows::flags::Flag;
-use windows::rows::rows_of;
+use windows::found::Ends;
+use windows::rows::{Rows, rows_of};
 
-// Shows the windows of so many nodes as the last round found them, unless one has no end.
-fn show(checked: Checked, count: usize, found: &[Window], windows: &mut [Window])
-    requires found_fit { count ≤ length found.now }
-    requires windows_fit { count ≤ length windows.old }
-    ensures { WindowsShown checked count found.now windows.old windows.new }
+// Judges the rows of a table in rounds that begin without flags, with room for so many nodes. What one round leaves the
+// next one goes on from. It is not inlined, so that a small table is judged in a small frame.
+#[inline(never)]
+fn judge<R: CouplingRule, const N: usize>(
+    rows: &Rows<'_>,
+    rule: &R,
+    flags: &mut [Flag],
+    windows: &mut [Window],
+    column: &mut [Arrival],
+) -> Result<Judgement, Refusal>
+    requires room { length rows.now.nodes.now ≤ N }
+    requires size { N ≤ 4096 }
+    requires few_couplings { length rows.now.couplings.now ≤ 1024 }
+    requires flags_fit { length rows.now.couplings.now ≤ length flags.old }
+    requires windows_fit { length rows.now.nodes.now ≤ length windows.old }
+    requires column_fits { length rows.now.nodes.now ≤ length column.old }
+    ensures { JudgeAnswered rows.now (R.meaning rule.now) flags.old flags.new windows.old windows.new column.old column.new result }
 {
-    if let Checked::Ended { .. } = checked {
-        windows[..count].copy_from_slice(&found[..count]);
+    let mut carried = match Carried::<N>::begin(rows) {
+        Ok(carried) => carried,
+        Err(refused) => return Err(refused),
+    };
+    clear(flags, rows.couplings.len());
+    let mut set = 0;
+    let mut made: u16 = 0;
+    let (ends, rounds) = loop {
+        let ends = carried.find(column)?;
+        if let Ends::NoneAt { .. } = ends {
+            break (ends, made + 1);
+        }
+        let fresh = flag_seen(rows, &mut carried, rule, flags);
+        if fresh == 0 {
+            break (ends, made + 1);
+        }
+        set += fresh;
+        made += 1;
+    };
+    let counted = set as u16;
+    if let Ends::NoneAt { latch } = ends {
+        return Ok(Judgement {
+            verdict: verdict_of(Checked::NoEnd { latch }),
+            rounds,
+            flags: counted,
+        });
     }
+    let checked = carried.finish(windows, column)?;
+    Ok(Judgement {
+        verdict: verdict_of(checked),
+        rounds,
+        flags: counted,
+    })
 }
 
 // Judges a sealed table: finds the least closed set of its couplings under the rule, in rounds that begin without flags,
 // and the verdict on the windows under it; or that no set is closed, where a window has no end. The flags of the last
-// round stand in `flags`, and its windows in `windows` unless one has no end. The column is room to work in.
+// round stand in `flags`, and its windows in `windows` unless one has no end. The column is room to work in. There is room
+// for as many nodes as a book takes in one of three sizes, so that little is cleared for a small table.
 pub fn verify<R: CouplingRule>(
     book: &Sealed,
     schedule: &Schedule,
@@ -49,26 +91,11 @@ pub fn verify<R: CouplingRule>(
 {
     let places = windows.len().min(column.len());
     let rows = rows_of(book, schedule, nodes, couplings, flags.len(), places)?;
-    let mut found = [Window { begins: 0, ends: 0 }; MOST_NODES];
-    clear(flags, rows.couplings.len());
-    let mut set = 0;
-    let mut made: u16 = 0;
-    let (checked, rounds) = loop {
-        let checked = windows_under(book, schedule, nodes, couplings, flags, &mut found, column)?;
-        if let Checked::NoEnd { .. } = checked {
-            break (checked, made + 1);
-        }
-        let fresh = flag_seen(&rows, &found, rule, flags);
-        if fresh == 0 {
-            break (checked, made + 1);
-        }
-        set += fresh;
-        made += 1;
-    };
-    show(checked, rows.nodes.len(), &found, windows);
-    Ok(Judgement {
-        verdict: verdict_of(checked),
-        rounds,
-        flags: set as u16,
-    })
+    if rows.nodes.len() <= 128 {
+        judge::<R, 128>(&rows, rule, flags, windows, column)
+    } else if rows.nodes.len() <= 1024 {
+        judge::<R, 1024>(&rows, rule, flags, windows, column)
+    } else {
+        judge::<R, 4096>(&rows, rule, flags, windows, column)
+    }
 }
