@@ -4,5 +4,3 @@
 pub mod apply;
 pub mod request;
 pub mod run;
-#[cfg(test)]
-mod tests;

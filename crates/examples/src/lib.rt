@@ -1,4 +1,4 @@
-// Worked examples over the whole library: calls and their answers, states, texts in and out.
+// Worked examples over the whole library: calls and their answers, states, schedules, windows, verdicts, texts in and out.
 #![tactic(auto)]
 
 #[cfg(test)]
@@ -8,6 +8,24 @@ mod calls;
 #[cfg(test)]
 mod clocks;
 #[cfg(test)]
+mod frames_by_hand;
+#[cfg(test)]
+mod judged;
+#[cfg(test)]
+mod lines;
+#[cfg(test)]
+mod numbers;
+#[cfg(test)]
+mod printed;
+#[cfg(test)]
+mod reports;
+#[cfg(test)]
+mod runs;
+#[cfg(test)]
 mod sealing;
 #[cfg(test)]
+mod seen;
+#[cfg(test)]
 mod texts;
+#[cfg(test)]
+mod windows_by_hand;

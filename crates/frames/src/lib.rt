@@ -10,8 +10,6 @@ use rules::Rule;
 pub mod kinds;
 pub mod read;
 pub mod rules;
-#[cfg(test)]
-mod tests;
 pub mod write;
 
 // A frame with its fields in the order of the format. `phases` and `sources` are the bytes of what

@@ -8,5 +8,3 @@ mod overwriting;
 pub mod rebuild;
 mod replies;
 pub mod room;
-#[cfg(test)]
-mod tests;

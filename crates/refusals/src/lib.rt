@@ -5,9 +5,6 @@ ghost use Rattle.std.specs.Prelude.{◌≡◌};
 ghost use Rattle.refusals.specs.Numbers.{number_of};
 ghost use Rattle.refusals.specs.Layers.{layer_of, fault_of};
 
-#[cfg(test)]
-mod tests;
-
 // Why a line or a call is refused; each case is one test.
 #[derive(Clone, Copy, PartialEq, Eq, Debug)]
 pub enum Refusal {

@@ -3,5 +3,3 @@
 
 pub mod lines;
 pub mod report;
-#[cfg(test)]
-mod tests;

@@ -7,8 +7,6 @@ ghost use Rattle.rules.specs.Questions.{Question, question, Lawful};
 pub mod always;
 pub mod named;
 pub mod never;
-#[cfg(test)]
-mod tests;
 pub mod three_occurrences;
 pub mod wire;
 

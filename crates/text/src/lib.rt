@@ -4,5 +4,3 @@
 pub mod digits;
 pub mod lines;
 pub mod spelling;
-#[cfg(test)]
-mod tests;

@@ -1,5 +1,5 @@
 // Examples: the number and the layer of each refusal, and a fault.
-use super::{Fault, Layer, Refusal};
+use refusals::{Fault, Layer, Refusal};
 
 #[test]
 fn numbers_and_layers(rt: HostRuntime) {

@@ -1,7 +1,7 @@
 // Examples: reports of all four verdicts, and a buffer that is one byte short.
-use super::report::{length_of, report};
 use judging::verdict::{Judgement, Verdict};
 use refusals::Refusal;
+use reporting::report::{length_of, report};
 use timing::windows::Window;
 use windows::flags::Flag;
 

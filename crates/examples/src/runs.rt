@@ -1,6 +1,6 @@
 // Lists of calls in which tables are made and judged.
-use super::request::{LentRequest, Reply, Request, Results};
-use super::run::run;
+use calling::request::{LentRequest, Reply, Request, Results};
+use calling::run::run;
 use design::calls::{Call, Gate, Input, Latch};
 use design::couplings::Coupling;
 use design::nodes::Node;

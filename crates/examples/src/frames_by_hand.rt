@@ -1,8 +1,8 @@
 // Examples: a frame of each kind read and written, bytes that are no frame, and frames that are not written.
-use super::Frame;
-use super::read::read;
-use super::rules::Rule;
-use super::write::write;
+use frames::Frame;
+use frames::read::read;
+use frames::rules::Rule;
+use frames::write::write;
 use refusals::Refusal;
 use std::test::Fail;
 

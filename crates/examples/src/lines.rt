@@ -1,8 +1,8 @@
 // Examples: the lines of small texts, lines that decode and lines that do not, the digits of a byte, and lines written.
-use super::digits::{LONGEST, Undecoded, decode, digits_of};
-use super::lines::Lines;
-use super::spelling::spell_line;
 use refusals::Refusal;
+use text::digits::{LONGEST, Undecoded, decode, digits_of};
+use text::lines::Lines;
+use text::spelling::spell_line;
 
 // Whether a text has a line of this number and these bytes next.
 fn next_is(lines: &mut Lines<'_>, number: usize, bytes: &[u8]) -> bool {

@@ -1,6 +1,6 @@
 // A text printed, one printed with rows overwritten by some that no book grants, and a buffer that is a byte short.
-use super::output::{output, output_overwritten};
-use super::room::room_for;
+use printing::output::{output, output_overwritten};
+use printing::room::room_for;
 use refusals::Refusal;
 
 // An input and a latch that it feeds, sealed and judged.

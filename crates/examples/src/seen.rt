@@ -1,11 +1,11 @@
 // Examples: the occurrences before and after the nearest one, windows at the ends of 64 bits, and the rules by name.
-use super::CouplingRule;
-use super::always::Always;
-use super::never::Never;
-use super::three_occurrences::ThreeOccurrences;
-use super::wire::Wire;
 use frames::rules::Rule;
 use refusals::Refusal;
+use rules::CouplingRule;
+use rules::always::Always;
+use rules::never::Never;
+use rules::three_occurrences::ThreeOccurrences;
+use rules::wire::Wire;
 use schedule::Schedule;
 use schedule::figures::Figures;
 use std::test::Fail;
