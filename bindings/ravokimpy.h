@@ -4,7 +4,7 @@
  *
  * A slice is passed as a pointer and a length. The pointer is not null, also where the length is 0, and what is lent for
  * writing overlaps nothing else that is lent to the call. No call allocates, keeps a pointer, or has a state of its own, so
- * calls may be made from several threads at once. A call wants about a megabyte of stack.
+ * calls may be made from several threads at once. A call wants two megabytes of stack.
  *
  * Where a function answers a status, it is 0 if the call is granted and else the number of its refusal, 1 to 14. A refused
  * call writes nothing.

@@ -1,7 +1,7 @@
 //! The library for callers in Rust: a text of frames in, and out what `clockmark` prints for it, a verdict, or the text of
 //! its table. The book of each call takes 4,096 nodes and 1,024 couplings, and a text has any length.
 //!
-//! A refused call writes nothing. A call wants about a megabyte of stack.
+//! A refused call writes nothing. A call wants two megabytes of stack.
 //!
 //! A clock of period 100 with one phase, which is open for 40, and an input that feeds a latch:
 //!

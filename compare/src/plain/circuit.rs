@@ -179,17 +179,6 @@ impl Circuit {
             0
         }
     }
-
-    /// The delays of all nodes under the couplings whose flags are set.
-    pub fn delays_under(&self, flags: &[bool]) -> Vec<Delays> {
-        let mut delays: Vec<Delays> = self.nodes.iter().map(Node::delays).collect();
-        for (coupling, _) in self.couplings.iter().zip(flags).filter(|(_, set)| **set) {
-            let disturbed = &mut delays[usize::from(coupling.victim)];
-            disturbed.least -= coupling.assisting;
-            disturbed.greatest += coupling.opposing;
-        }
-        delays
-    }
 }
 
 fn number(node: usize) -> u16 {

@@ -11,9 +11,10 @@ pub enum Arrival {
 }
 
 impl Arrival {
+    /// The arrival after a step. A sum that would leave 64 bits stays at their end, as in the library.
     pub fn after(self, gain: i64) -> Arrival {
         match self {
-            Arrival::At(figure) => Arrival::At(figure + gain),
+            Arrival::At(figure) => Arrival::At(figure.saturating_add(gain)),
             _ => self,
         }
     }

@@ -2,7 +2,9 @@
 //! indices where the language makes them. The benchmark compares the library with it.
 
 mod blocks;
+mod carried;
 mod circuit;
+mod in_place;
 mod judging;
 mod kinds;
 mod sweeps;

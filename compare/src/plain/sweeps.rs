@@ -18,7 +18,7 @@ impl Network<'_> {
         self.circuit.nodes.iter().map(|node| self.start::<K>(node)).collect()
     }
 
-    fn start<K: Kind>(&self, node: &Node) -> Arrival {
+    pub fn start<K: Kind>(&self, node: &Node) -> Arrival {
         match *node {
             Node::Input { earliest, latest, .. } => Arrival::At(K::start(earliest, latest)),
             Node::Gate { .. } => Arrival::NoPath,
@@ -44,7 +44,7 @@ impl Network<'_> {
         let sources = node.sources();
         for &source in sources {
             let from = usize::from(source);
-            let gain = K::delay(self.delays[from]) - self.circuit.shift(&self.circuit.nodes[from], node);
+            let gain = K::delay(self.delays[from]).saturating_sub(self.circuit.shift(&self.circuit.nodes[from], node));
             figure = K::join(figure, self.leaving(starts, column, from).after(gain));
         }
         tally.connections(sources.len());
@@ -137,6 +137,12 @@ impl Network<'_> {
             }
             made += 1;
         }
+    }
+
+    /// The lowest latch that starts without an end.
+    pub fn lowest_without_end(&self, starts: &[Arrival]) -> Option<usize> {
+        let mut nodes = self.circuit.nodes.iter().zip(starts);
+        nodes.position(|(node, start)| node.is_latch() && *start == Arrival::NoEnd)
     }
 
     pub fn all_stale(&self) -> Vec<bool> {
