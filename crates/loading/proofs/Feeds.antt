@@ -16,7 +16,7 @@ use Rattle.loading.proofs.Outcomes.{Makes, makes_none, makes_one, makes_each}
 use Rattle.loading.proofs.NodeRows.{drafted, unfed, IsNode, live_parts}
 
 -- the feed of one row, among rows before it and rows behind it
-load_feed : (c : Clock) (l : Lent) (count : ℕ) (done : List Node) (x : Node) (behind : List Node) → All IsNode (done ++ unfed x ∷ behind) → length (done ++ unfed x ∷ behind) ≡ count → count ≤ l.nodes → count ≤ most_nodes → RowStands c count (length done) x
+pub load_feed : (c : Clock) (l : Lent) (count : ℕ) (done : List Node) (x : Node) (behind : List Node) → All IsNode (done ++ unfed x ∷ behind) → length (done ++ unfed x ∷ behind) ≡ count → count ≤ l.nodes → count ≤ most_nodes → RowStands c count (length done) x
     → Makes l (drafted c l (done ++ unfed x ∷ behind) []) (feed_frame (length done) x) (drafted c l (done ++ x ∷ behind) [])
 load_feed c l count done Free behind all len lent most h = absurd h
 load_feed c l count done (Input phase earliest latest) behind all len lent most h = makes_none

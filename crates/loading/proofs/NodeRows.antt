@@ -1,5 +1,5 @@
 -- The node frames of a table that stands make its rows, with no latch fed.
-use Rattle.std.proofs.Common.{◌≡◌, ℕ, ◌<◌, ◌≤◌, min, true, false, List, [], ◌∷◌, ◌++◌, map, length, get_or, Some, None, sym, refl, ap, arith}
+use Rattle.std.proofs.Common.{◌≡◌, ℕ, ◌<◌, ◌≤◌, min, Bool, true, false, List, [], ◌∷◌, ◌++◌, map, length, get_or, Some, None, sym, refl, ap, arith}
 use Rattle.std.specs.List.{flat_map, All}
 use Rattle.std.proofs.lemmas.List.{map_push, take_all, length-map, take_at, drop_at}
 use Rattle.std.proofs.lemmas.List.Folds.{list_any_none}
@@ -43,19 +43,19 @@ Live x = IsNode x × IsNode (unfed x)
 pub live_row : (c : Clock) (count k : ℕ) (x : Node) → RowStands c count k x → Live x
 live_row c count k x h = (grind arith, grind arith)
 
+-- a node that is there, in a row that is lent and of an allowed kind, is no other
+pub no_other : (allowed : Node → Bool) (l : Lent) (t : Table) (k : ℕ) → length t.nodes ≤ l.nodes → k < length t.nodes → allowed (get_or t.nodes k Free) ≡ true → is_other allowed l t k ≡ false
+no_other allowed l t k lent lt is = let rows = take_all l.nodes t.nodes lent in grind (arith, nat_tests)
+
 -- no source is other than a node, where all rows are nodes and the sources are below their count
 no_others : (l : Lent) (t : Table) (ks : List ℕ) → length t.nodes ≤ l.nodes → All IsNode t.nodes → ((i : ℕ) → i < length ks → get_or ks i 0 < length t.nodes) → any_other is_node l t ks ≡ false
 no_others l t ks lent all below =
-    let rows = take_all l.nodes t.nodes lent in
     list_any_none (is_other is_node l t) ks
     (All-from_get_or (λ k. is_other is_node l t k ≡ false) ks 0
-    (λ i h.
-    let lt = below i h in
-    let node = all (get_or ks i 0) Free lt in
-    grind (arith, nat_tests)))
+    (λ i h. let lt = below i h in no_other is_node l t (get_or ks i 0) lent lt (all (get_or ks i 0) Free lt)))
 
 -- one node frame makes one row
-load_node : (c : Clock) (l : Lent) (count : ℕ) (xs : List Node) (x : Node) → c.phases ≤ 16 → All IsNode xs → length xs < l.nodes → length xs < most_nodes → RowStands c count (length xs) x
+pub load_node : (c : Clock) (l : Lent) (count : ℕ) (xs : List Node) (x : Node) → c.phases ≤ 16 → All IsNode xs → length xs < l.nodes → length xs < most_nodes → RowStands c count (length xs) x
     → Makes l (drafted c l xs []) (node_frame x) (drafted c l (xs ++ unfed x ∷ []) [])
 load_node c l count xs Free few all lent most h = absurd h
 load_node c l count xs (Input phase earliest latest) few all lent most h =

@@ -1,7 +1,9 @@
 -- A written frame, taken as a line, is the call that it asks for; and frames whose lines are granted make one table of another.
-use Rattle.std.proofs.Common.{◌≡◌, ℕ, ◌+◌, ◌<◌, true, List, [], ◌∷◌, ◌++◌, length, get_or, Some, None, Ok, Option, sym, refl, ap, ◌∙◌, arith, Err}
+use Rattle.std.proofs.Common.{◌≡◌, ℕ, ◌+◌, ◌<◌, true, List, [], ◌∷◌, ◌++◌, map, length, get_or, Some, None, Ok, Option, sym, refl, ap, ◌∙◌, arith, Err}
 use Rattle.refusals.specs.declared.Refusal.{Refusal}
 use Rattle.refusals.specs.declared.Refusal.TheVariants.{Digits}
+use Rattle.std.specs.List.{All}
+use Rattle.std.proofs.lemmas.List.Elements.{All-head, All-tail}
 use Rattle.std.proofs.lemmas.List.{append-nil, append_assoc, length-append, length_push, get_or_at}
 use Rattle.std.proofs.lemmas.Bool.{cond-true}
 use Rattle.text.specs.Lines.{line_feed, lines_of}
@@ -26,7 +28,7 @@ abbrev pub Sound : Content → Type 0
 Sound f = Fit (widths f.kind) f.numbers × (is_whole f ≡ true) × Bytes f.listed
 
 -- the line of a frame is taken as what the frame asks
-frame_outcome : (l : Lent) (t : Table) (f : Content) → Sound f → line_outcome l t (spelled (encode f)) ≡ called l t (asks (is_open t.state) f)
+pub frame_outcome : (l : Lent) (t : Table) (f : Content) → Sound f → line_outcome l t (spelled (encode f)) ≡ called l t (asks (is_open t.state) f)
 frame_outcome l t f s =
     let line = spelled (encode f) in
     let bytes = bytes_encode f s.2 in
@@ -35,6 +37,15 @@ frame_outcome l t f s =
     let read = read_back f s.0 s.1 in
     let frame : line_frame line ≡ Ok f = cc in
     ap (framed l t) frame
+
+-- the lines of a text of frames are those of the frames
+pub lines_back : (fs : List Content) → All (λ f. Bytes f.listed) fs → lines_of (lines_for fs) ≡ map (λ f. spelled (encode f)) fs
+lines_back [] bytes = refl
+lines_back (f ∷ fs) bytes =
+    let first = All-head (λ g. Bytes g.listed) f fs bytes in
+    let rest = All-tail (λ g. Bytes g.listed) f fs bytes in
+    ap lines_of (append_assoc (spelled (encode f)) (line_feed ∷ []) (lines_for fs))
+    ∙ (first-spelled (encode f) (lines_for fs) (bytes_encode f first) ∙ ap (λ ls. spelled (encode f) ∷ ls) (lines_back fs rest))
 
 -- frames make one table of another: wherever their lines stand in a text, loading grants them and goes on from that table
 pub record Makes (l : Lent) (t : Table) (fs : List Content) (u : Table) : Type 0 where
