@@ -1,3 +1,3 @@
 -- The lemmas of this crate.
 mod Calls
-mod Layers
+pub mod Layers

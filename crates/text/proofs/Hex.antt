@@ -9,6 +9,16 @@ bytes_length [] = refl
 bytes_length (x ∷ []) = refl
 bytes_length (x ∷ (y ∷ xs)) = omega (arith, bytes_length xs)
 
+-- the byte that two characters stand for, by their places
+pub byte_at : (xs : List ℕ) (k : ℕ) → k < length xs / 2 → get_or (bytes_of xs) k 0 ≡ digit_value (get_or xs (2 * k) 0) * 16 + digit_value (get_or xs (2 * k + 1) 0)
+byte_at [] k h = absurd (omega arith)
+byte_at (x ∷ []) k h = absurd (omega arith)
+byte_at (x ∷ (y ∷ xs)) zero h = refl
+byte_at (x ∷ (y ∷ xs)) (suc k) h =
+    let a : 2 * suc k ≡ suc (suc (2 * k)) = omega arith in
+    let b : suc (suc (2 * k)) + 1 ≡ suc (suc (2 * k + 1)) = omega arith in
+    rw (a, b) (byte_at xs k (omega arith))
+
 -- both characters of a pair are digits
 pub pair_digits : (xs : List ℕ) (n k : ℕ) → every_digit xs ≡ true → 2 * n ≤ length xs → k < n → let p = get_or (first_chunks 2 n xs) k [] in (is_digit (get_or p 0 0) ≡ true) × (is_digit (get_or p 1 0) ≡ true)
 pair_digits xs zero k e long h = absurd (omega arith)
