@@ -66,3 +66,9 @@ read_and_written k bs (Ok f) small is e =
     let frame = frame_is k bs (content_of f) e in
     (ap (λ o. frame_as o bs) kind ∙ e, ap encode (sym frame.1) ∙ written_back k bs small kind frame.0)
 read_and_written k bs (Err x) small is e = ap (λ o. frame_as o bs) (kind_is (kind_of (get_or bs 0 0)) k is) ∙ e
+
+-- the same, whatever kind the first byte stands for, or where it stands for none
+pub read_any_and_written : (o : Option Kind) (bs : List ℕ) (r : Result Frame NotAFrame) → ((i : ℕ) → get_or bs i 0 < 256) → kind_of (get_or bs 0 0) ≡ o → ReadAs o bs r → Read bs r
+read_any_and_written None bs (Ok f) small is e = cc
+read_any_and_written None bs (Err x) small is e = ap (λ o. frame_as o bs) is
+read_any_and_written (Some k) bs r small is e = read_and_written k bs r small (ap (λ o. ok_or o (record {})) is) e
