@@ -38,6 +38,7 @@ appends_none s = record {
   same_buffer = refl;
   same_length = refl;
   counted = omega arith;
+  no_further = omega arith;
   written = λ low h. sym (ap (λ n. take s.end s.out.now ++ drop n s.out.now) (add-zero s.end) ∙ take-append-drop s.end s.out.now);
 }
 
@@ -56,6 +57,7 @@ appends_then {fs} {gs} {s} {t} {u} first then =
       same_buffer = then.same_buffer ∙ first.same_buffer;
       same_length = then.same_length ∙ first.same_length;
       counted = omega arith;
+      no_further = omega (arith, first.no_further, then.no_further);
       written = λ low h.
           let reach : t.end ≡ s.end + length F = omega arith in
           let end : t.end + length G ≡ end_with (fs ++ gs) s = omega arith in
@@ -89,6 +91,7 @@ module _ (f : Content) (room rest : List ℕ) (count : ℕ) (is : room ≡ encod
         same_buffer = name;
         same_length = long;
         counted = ap (λ n. min n (2 ^ 64 - 1)) end;
+        no_further = omega (arith, end);
         written = λ low h. cc (spelled.2);
       }
 
@@ -100,5 +103,6 @@ module _ (f : Content) (room rest : List ℕ) (count : ℕ) (is : room ≡ encod
         same_buffer = name;
         same_length = ap length spelled.2;
         counted = omega arith;
+        no_further = omega arith;
         written = λ low h. absurd (omega (arith, spelled.0, ap length line_is));
       }

@@ -6,6 +6,10 @@ use Rattle.design.specs.Table.{Table, Lent}
 use Rattle.design.specs.Tests.{is_short}
 use Rattle.loading.specs.Writing.{text_of}
 
+-- the most bytes that a text has: 277 for a schedule of 16 phases, 48 for each of 4,096 nodes with its feed, and 27 for each of 1,024 couplings
+abbrev pub longest_text : ℕ
+longest_text = 224533
+
 -- a lent table has fewer rows than are granted, or the buffer fewer bytes than the text
 abbrev pub no_room_for : Lent → Table → ℕ → Bool
 no_room_for l t room = is_short l t 0 0 || nat_lt room (length (text_of t))

@@ -1,10 +1,10 @@
 // The lines of a table's text, written one after another.
-ghost use Rattle.std.specs.Prelude.{◌≡◌, ◌≤◌, None, [], ◌∷◌, ◌++◌, map, length, take, slice_index};
+ghost use Rattle.std.specs.Prelude.{◌≡◌, ◌+◌, ◌*◌, ◌≤◌, None, [], ◌∷◌, ◌++◌, map, length, take, slice_index};
 ghost use Rattle.std.specs.List.{flat_map, range_with_len};
 ghost use Rattle.frames.specs.Frames.{bytes_in};
 ghost use Rattle.frames.specs.Contents.{content_of, unwritten};
 ghost use Rattle.loading.specs.Writing.{schedule_frame, node_frame, feed_frame, feed_frames, couple_frame};
-ghost use Rattle.listing.specs.Appending.{Appends};
+ghost use Rattle.listing.specs.Appending.{gate_sources, Appends};
 
 use design::couplings::Coupling;
 use design::nodes::Node;
@@ -51,7 +51,8 @@ impl<'a> Listing<'a> {
     }
 
     fn put_schedule(&mut self, schedule: &Schedule)
-        ensures { Appends (schedule_frame schedule.now ∷ []) self.old self.new }
+        ensures lines { Appends (schedule_frame schedule.now ∷ []) self.old self.new }
+        ensures near { self.new.end ≤ self.old.end + 277 }
     {
         let figures = Figures::from(schedule);
         let bytes = bytes_of_phases(&figures);
@@ -65,7 +66,9 @@ impl<'a> Listing<'a> {
     }
 
     fn put_node(&mut self, node: &Node)
-        ensures { Appends (node_frame node.now) self.old self.new }
+        ensures lines { Appends (node_frame node.now) self.old self.new }
+        ensures near { self.new.end ≤ self.old.end + 39 }
+        ensures few { length (gate_sources node.now) ≤ 4 }
     {
         match *node {
             Node::Free => {}
@@ -113,7 +116,8 @@ impl<'a> Listing<'a> {
 
     // Puts the feed of a latch; a latch without a source, or any other row, has none.
     fn put_feed(&mut self, latch: u16, node: &Node)
-        ensures { Appends (feed_frame latch node.now) self.old self.new }
+        ensures lines { Appends (feed_frame latch node.now) self.old self.new }
+        ensures near { self.new.end ≤ self.old.end + 11 }
     {
         if let Node::Latch {
             source: Some(source),
@@ -125,7 +129,8 @@ impl<'a> Listing<'a> {
     }
 
     fn put_coupling(&mut self, coupling: &Coupling)
-        ensures { Appends (couple_frame coupling.now ∷ []) self.old self.new }
+        ensures lines { Appends (couple_frame coupling.now ∷ []) self.old self.new }
+        ensures near { self.new.end ≤ self.old.end + 27 }
     {
         self.put_line(&Frame::Couple {
             victim: coupling.victim,
@@ -140,7 +145,8 @@ impl<'a> Listing<'a> {
     #[tactic(auto, using(crate::proofs::Joins::appends_none))]
     pub(crate) fn put_table(&mut self, schedule: &Schedule, nodes: &[Node], couplings: &[Coupling])
         requires { length nodes.now ≤ 4096 }
-        ensures { Appends (schedule_frame schedule.now ∷ (flat_map node_frame nodes.now ++ (feed_frames 0 nodes.now ++ map couple_frame couplings.now))) self.old self.new }
+        ensures lines { Appends (schedule_frame schedule.now ∷ (flat_map node_frame nodes.now ++ (feed_frames 0 nodes.now ++ map couple_frame couplings.now))) self.old self.new }
+        ensures near { self.new.end ≤ self.old.end + (277 + (48 * length nodes.now + 27 * length couplings.now)) }
     {
         self.put_schedule(schedule);
         // Three loops, since the lines of a node, of a feed and of a coupling are put by methods of their own.

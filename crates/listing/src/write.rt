@@ -1,8 +1,9 @@
 // The text of a table.
+ghost use Rattle.std.specs.Prelude.{◌≤◌, IfOk};
 ghost use Rattle.design.specs.Table.{lent_in};
 ghost use Rattle.states.specs.Views.{loan_of, open_table};
 ghost use Rattle.loading.specs.Rebuilding.{AllRebuild};
-ghost use Rattle.listing.specs.Listed.{WrittenTo};
+ghost use Rattle.listing.specs.Listed.{longest_text, WrittenTo};
 
 use super::lines::Listing;
 use design::couplings::Coupling;
@@ -23,6 +24,7 @@ pub fn write<S: Stage>(
     out: &mut [u8],
 ) -> Result<usize, Refusal>
     ensures text { WrittenTo (lent_in (loan_of schedule.now nodes.now couplings.now)) (open_table S.state book.now (loan_of schedule.now nodes.now couplings.now)) out.old out.new result }
+    ensures few { IfOk result (λ n. n ≤ longest_text) }
     ensures rebuilds { AllRebuild }
 {
     let counts = book.counts();

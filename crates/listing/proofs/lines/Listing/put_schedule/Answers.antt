@@ -9,6 +9,7 @@ use Rattle.frames.specs.declared.kinds.Kind.TheVariants.{Schedule}
 use Rattle.loading.specs.Writing.{schedule_frame}
 use Rattle.listing.specs.Appending.{Appends}
 use Rattle.listing.proofs.Bytes.{phases_are}
+use Rattle.listing.proofs.Sizes.{schedule_lines}
 use Rattle.listing.proofs.lines.Listing.put_schedule.Goals as goal
 
 pub returns : goal.returns
@@ -21,4 +22,5 @@ returns c =
     let same = ap schedule_frame c.from-figures.ensures.0 in
     let frame : Content = record { kind = Schedule; numbers = figures.period ∷ figures.proximity ∷ figures.count ∷ []; listed = c.as_flattened-2.result.now } in
     let is : frame ≡ schedule_frame c.args.schedule.now = cc in
-    subst (λ f. Appends (f ∷ []) c.args.self.now c.put_line.new.self) is c.put_line.ensures
+    let lines : Appends (schedule_frame c.args.schedule.now ∷ []) c.args.self.now c.put_line.new.self = subst (λ f. Appends (f ∷ []) c.args.self.now c.put_line.new.self) is c.put_line.ensures in
+    record { lines = lines; near = omega (arith, lines.no_further, schedule_lines c.args.schedule.now few) }
