@@ -1,12 +1,12 @@
 // Writing a frame as bytes.
 ghost use Rattle.std.specs.Prelude.{◌≡◌, ◌≤◌, [], ◌++◌, length, drop};
 ghost use Rattle.std.specs.List.{flat_map};
-ghost use Rattle.frames.specs.Kinds.{widths, fixed_width};
+ghost use Rattle.frames.specs.Kinds.{widths, fixed_width, form_of};
 ghost use Rattle.frames.specs.Frames.{fields_of, Fit};
 ghost use Rattle.frames.specs.Contents.{content_of, count_of, Written};
 
 use super::Frame;
-use super::kinds::Kind;
+use super::kinds::{Form, Kind};
 use refusals::Refusal;
 
 impl Frame<'_> {
@@ -51,13 +51,15 @@ fn put(fields: &[&[u8]], out: &mut [u8])
     }
 }
 
-// Writes a frame's kind and fixed fields into the first places of `out`.
-fn put_fields(frame: &Frame<'_>, out: &mut [u8])
-    requires { fixed_width (content_of frame.now).kind ≤ length out.old }
+// Writes a frame's kind and fixed fields into the first places of `out`. The form of its kind is handed in, since looking it
+// up costs as much as writing the fields.
+fn put_fields(frame: &Frame<'_>, form: Form, out: &mut [u8])
+    requires form { form ≡ form_of (content_of frame.now).kind }
+    requires room { fixed_width (content_of frame.now).kind ≤ length out.old }
     ensures fit { Fit (widths (content_of frame.now).kind) (content_of frame.now).numbers }
     ensures after { out.new ≡ fields_of (content_of frame.now) ++ drop (fixed_width (content_of frame.now).kind) out.old }
 {
-    let kind = &[frame.kind().form().byte];
+    let kind = &[form.byte];
     match *frame {
         Frame::Schedule {
             period,
@@ -155,7 +157,7 @@ pub fn write(frame: &Frame<'_>, out: &mut [u8]) -> Result<usize, Refusal>
     if out.len() < length {
         return Err(Refusal::Short);
     }
-    put_fields(frame, out);
+    put_fields(frame, form, out);
     out[form.fixed..length].copy_from_slice(listed);
     Ok(length)
 }
