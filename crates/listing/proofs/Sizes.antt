@@ -1,4 +1,4 @@
--- The frames of a table are whole, and how many bytes each has, with its line; and so how long a table's text is at most.
+-- The frames of a table are whole, and how many bytes each has, with its line; and so how many those of all rows and couplings have.
 use Rattle.std.proofs.Common.{◌≡◌, ℕ, ◌+◌, ◌*◌, ◌≤◌, true, cond, not, ltb, List, [], ◌∷◌, ◌++◌, map, length, get_or, Some, None, sym, ap, ◌∙◌, subst, arith}
 use Rattle.std.specs.List.{All, flat_map, range_with_len}
 use Rattle.std.proofs.lemmas.List.{length-append, append-nil}
@@ -17,11 +17,9 @@ use Rattle.design.specs.declared.nodes.Node.{Node}
 use Rattle.design.specs.declared.nodes.Node.TheVariants.{Free, Input, Gate, Latch}
 use Rattle.design.specs.declared.couplings.Coupling.{Coupling}
 use Rattle.design.specs.Rows.{sources_in}
-use Rattle.design.specs.Table.{Table}
-use Rattle.loading.specs.Writing.{phase_bytes, schedule_frame, node_frame, feed_frame, feed_frames, couple_frame, line_of, lines_for, text_of}
+use Rattle.loading.specs.Writing.{phase_bytes, schedule_frame, node_frame, feed_frame, feed_frames, couple_frame, line_of, lines_for}
 use Rattle.loading.proofs.Items.{length_items}
 use Rattle.listing.specs.Appending.{gate_sources}
-use Rattle.listing.specs.Listed.{longest_text}
 
 -- whole, and no longer than so many bytes
 abbrev pub Within : ℕ → Content → Type 0
@@ -159,16 +157,3 @@ rows_lines k (x ∷ xs) few =
 pub couplings_lines : (ks : List Coupling) → length (lines_for (map couple_frame ks)) ≤ 27 * length ks
 couplings_lines [] = omega arith
 couplings_lines (k ∷ ks) = omega (arith, lines_append (couple_frame k ∷ []) (map couple_frame ks), couple_lines k, couplings_lines ks)
-
--- the lines of a schedule, of rows, of their feeds and of couplings
-pub table_lines : (c : Clock) (xs : List Node) (ks : List Coupling) → c.phases ≤ 16 → All FewSources xs
-    → length (lines_for (schedule_frame c ∷ (flat_map node_frame xs ++ (feed_frames 0 xs ++ map couple_frame ks)))) ≤ 277 + (48 * length xs + 27 * length ks)
-table_lines c xs ks phases few =
-    let nodes = flat_map node_frame xs in
-    let feeds = feed_frames 0 xs in
-    let couples = map couple_frame ks in
-    omega (arith, lines_append (schedule_frame c ∷ []) (nodes ++ (feeds ++ couples)), lines_append nodes (feeds ++ couples), lines_append feeds couples, schedule_lines c phases, rows_lines 0 xs few, couplings_lines ks)
-
--- the text of the largest table
-pub text_length : (t : Table) → t.clock.phases ≤ 16 → All FewSources t.nodes → length t.nodes ≤ 4096 → length t.couplings ≤ 1024 → length (text_of t) ≤ longest_text
-text_length t phases few nodes couplings = omega (arith, table_lines t.clock t.nodes t.couplings phases few)

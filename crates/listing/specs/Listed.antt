@@ -1,14 +1,14 @@
 -- What writing the text of a table does to a buffer.
-use Rattle.std.specs.Prelude.{◌≡◌, ℕ, Bool, true, false, ◌||◌, List, ◌++◌, length, drop, Ok, Err, Result, nat_lt}
+use Rattle.std.specs.Prelude.{◌≡◌, ℕ, ◌+◌, ◌*◌, Bool, true, false, ◌||◌, List, ◌++◌, length, drop, Ok, Err, Result, nat_lt}
 use Rattle.refusals.specs.declared.Refusal.{Refusal}
 use Rattle.refusals.specs.declared.Refusal.TheVariants.{Short}
-use Rattle.design.specs.Table.{Table, Lent}
+use Rattle.design.specs.Table.{Table, Lent, most_nodes, most_couplings}
 use Rattle.design.specs.Tests.{is_short}
 use Rattle.loading.specs.Writing.{text_of}
 
--- the most bytes that a text has: 277 for a schedule of 16 phases, 48 for each of 4,096 nodes with its feed, and 27 for each of 1,024 couplings
+-- The most bytes that a text has: those of the line of a schedule with 16 phases, of a latch and its feed for each node, and of each coupling.
 abbrev pub longest_text : ℕ
-longest_text = 224533
+longest_text = 277 + (48 * most_nodes + 27 * most_couplings)
 
 -- a lent table has fewer rows than are granted, or the buffer fewer bytes than the text
 abbrev pub no_room_for : Lent → Table → ℕ → Bool
